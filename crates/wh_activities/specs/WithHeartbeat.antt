@@ -1,8 +1,8 @@
--- Words on handlers that beat.
+-- The responses to heartbeats.
 use Rattle.std.specs.Prelude.{List}
 use Rattle.wh_events.specs.declared.event.Payload.{Payload}
 use Rattle.wh_heartbeat.specs.declared.heartbeat.HeartbeatResponse.{HeartbeatResponse}
 
--- what a beat with such details may bring
+-- which responses a heartbeat with these details may get
 abbrev pub Brings : Type 1
 Brings = List Payload → HeartbeatResponse → Type 0

@@ -1,8 +1,8 @@
-//! Handlers of activities that beat while they work.
+//! Activity handlers that send heartbeats while they run.
 #![tactic(auto)]
 
 mod with_heartbeat;
 mod without_heartbeat;
 
-pub use with_heartbeat::{WithHeartbeat, HeartbeatHandler};
+pub use with_heartbeat::{HeartbeatHandler, WithHeartbeat};
 pub use without_heartbeat::WithoutHeartbeat;

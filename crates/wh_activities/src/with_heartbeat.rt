@@ -1,25 +1,26 @@
-//! Handlers that beat, each with its heartbeat.
+//! Activity handlers that send heartbeats, and a handler with its heartbeat.
 ghost use Rattle.std.specs.Prelude.{IfOk};
 
 use wh_events::OutOfMemory;
 use wh_heartbeat::Heartbeat;
 use wh_tasks::{ActivityAnswer, ActivityHandler, ActivityTask};
 
-/// Runs activities, one for each worker, and may beat while it does: it tells the server that an
-/// activity goes on, and hears whether it is to be canceled (Temporal documentation, "Activity
-/// Heartbeat"). What an activity does is its own; contracts see what it may answer.
+/// Runs activities, one handler for each worker, and can send heartbeats meanwhile. A heartbeat
+/// reports to the server that an activity goes on, and its response says whether the activity is to
+/// be canceled (Temporal documentation, "Activity Heartbeat"). Contracts see which answers an
+/// activity may give, and nothing else of what it does.
 pub trait HeartbeatHandler {
     ghost use Rattle.wh_activities.specs.WithHeartbeat.{Brings};
     ghost use Rattle.wh_tasks.specs.Source.{SameMay};
     ghost use Rattle.wh_tasks.specs.declared.source.ActivityTask.{ActivityTask};
     ghost use Rattle.wh_tasks.specs.declared.source.ActivityAnswer.{ActivityAnswer};
 
-    /// Which answers a task may get, by what a beat with such details may bring. No call changes it.
+    /// Which answers a task may get, by the responses that heartbeats may get. No call changes it.
     ghost may: { Self → Brings → ActivityTask → ActivityAnswer → Type 0 };
 
-    /// Runs the task and gives its answer. Each beat of the heartbeat is for this task. Where a beat
-    /// brought that the activity is to be canceled, a failure is answered for as canceled.
-    /// `OutOfMemory` where there was no memory: the task then gets no answer.
+    /// Runs the task and returns its answer. Each heartbeat that it sends is for this task. If a
+    /// response was that the activity is to be canceled, a failure is answered as canceled. Returns
+    /// `OutOfMemory` if there was no memory. The task then gets no answer.
     fn run<H: Heartbeat>(
         &mut self,
         task: &ActivityTask,
@@ -29,12 +30,12 @@ pub trait HeartbeatHandler {
         ensures may { SameMay (may self.old H.brings) (may self.new H.brings) };
 }
 
-/// A handler that beats, with its heartbeat: what a worker runs activities by.
+/// A handler with its heartbeat, as an `ActivityHandler` for a worker.
 #[derive(Drop)]
 pub struct WithHeartbeat<B, H> {
-    /// What runs the activities.
+    /// Runs the activities.
     pub handler: B,
-    /// By what it beats.
+    /// Sends its heartbeats.
     pub heartbeat: H,
 }
 

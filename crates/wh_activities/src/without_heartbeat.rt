@@ -1,14 +1,14 @@
-//! Handlers that do not beat.
+//! Activity handlers that send no heartbeats.
 
 use crate::with_heartbeat::HeartbeatHandler;
 use wh_events::OutOfMemory;
 use wh_heartbeat::Heartbeat;
 use wh_tasks::{ActivityAnswer, ActivityHandler, ActivityTask};
 
-/// A handler that does not beat, where one that beats is asked for.
+/// A handler that sends no heartbeats, as a `HeartbeatHandler`.
 #[derive(Drop)]
 pub struct WithoutHeartbeat<A> {
-    /// What runs the activities.
+    /// Runs the activities.
     pub handler: A,
 }
 

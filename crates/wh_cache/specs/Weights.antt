@@ -1,4 +1,4 @@
--- What a cached run weighs.
+-- The weight of a cached run.
 use Rattle.std.specs.Prelude.{ℕ, ◌+◌, ◌/◌, min, List, [], ◌∷◌, length, sum_by}
 use Rattle.wh_events.specs.declared.event.Event.{Event}
 use Rattle.wh_events.specs.declared.event.Payload.{Payload}
@@ -9,7 +9,7 @@ use Rattle.wh_events.specs.declared.kind.EventKind.TheVariants.{WorkflowExecutio
 abbrev pub payload_bytes : Payload → ℕ
 payload_bytes payload = length payload.encoding + length payload.content
 
--- what a run was given by the event that starts it
+-- the input in the event that starts a run
 abbrev pub input_in : EventKind → List Payload
 input_in (WorkflowExecutionStarted _ input) = input
 input_in _ = []
@@ -19,6 +19,6 @@ abbrev pub input_of : List Event → List Payload
 input_of [] = []
 input_of (event ∷ _) = input_in event.body
 
--- one for each event, and one for each whole KiB of the input, of which at most 4 GiB count
+-- one for each event, and one for each whole KiB of the input; at most 4 GiB of the input count
 unfoldable pub weight_of : List Event → ℕ
 weight_of events = length events + min (sum_by payload_bytes (input_of events)) 4_294_967_296 / 1024

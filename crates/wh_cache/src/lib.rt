@@ -1,6 +1,6 @@
-//! A sticky cache: runs of workflows kept between their tasks, bounded by their number and by their
-//! weight together. A run weighs one for each held event, and one for each whole KiB (1,024 bytes)
-//! of its input, of which at most 4 GiB count.
+//! A cache for sticky execution: it keeps the runs of workflows between their tasks. One bound
+//! limits their number, another one their weight together. A run weighs one for each event that it
+//! holds, and one for each whole KiB (1,024 bytes) of its input. At most 4 GiB of the input count.
 #![tactic(auto)]
 
 ghost use Rattle.std.specs.Prelude.{◌≡◌, ◌≢◌, ◌↔◌, ◌≤◌, ◌<◌, ◌+◌, ◌-◌, ◌*◌, ◌++◌, [], None, IsTrue};
@@ -32,27 +32,27 @@ pub const MOST_RUNS: usize = 10_000;
 /// The largest bound on the weight of the cached runs together.
 pub const MOST_CACHED_EVENTS: u64 = 512_000_000;
 
-/// What became of a run that was put into the cache. The last four hand it back and leave the cache
-/// as it was.
+/// What became of a run that was put into the cache. The last four return the run and leave the
+/// cache as it was.
 #[derive(Drop)]
 pub enum Put<W: Workflow> {
-    /// The run is the first one, and no run had to go.
+    /// The run is the first one, and no run was evicted.
     Kept,
-    /// The run is the first one. These had to go, the least recently used first.
+    /// The run is the first one. These runs were evicted, the least recently used first.
     PushedOut(Items<Run<W>>),
-    /// The cache takes no runs: its capacity is 0.
+    /// The cache keeps no runs: its capacity is 0.
     Off(Run<W>),
     /// The cached run of the same key holds at least as many events.
     Shorter(Run<W>),
-    /// The run alone weighs more than the cached runs may together.
+    /// The run alone weighs more than all cached runs together may weigh.
     TooLarge(Run<W>),
-    /// No memory was found, for a run of a key that is not cached or for the list of the runs that
-    /// have to go.
+    /// There was no memory for a run of a key that is not cached, or for the list of the runs to
+    /// evict.
     NoMemory(Run<W>),
 }
 
-/// The cached runs of a worker, which saves the replay of a workflow from its first event where its
-/// next task comes to the same worker ("sticky execution" in Temporal's documentation). Contracts
+/// The cached runs of a worker. If the next task of a workflow comes to the same worker, it need
+/// not be replayed from its first event ("sticky execution" in Temporal's documentation). Contracts
 /// see the runs, the most recently used first, with both bounds.
 #[derive(Drop)]
 pub struct Sticky<W: Workflow> {
@@ -78,14 +78,14 @@ impl<W: Workflow> Model for Sticky<W> {
 }
 
 impl<W: Workflow> Sticky<W> {
-    /// An empty cache of at most `capacity` runs, none where it is 0. Where `events` is not 0, the
-    /// cached runs weigh at most so much together. `OutOfMemory` where there was no memory.
+    /// Opens an empty cache of at most `capacity` runs. If `events` is not 0, the cached runs
+    /// together weigh at most `events`. Returns `OutOfMemory` if there was no memory.
     pub fn open(alloc: Global, capacity: usize, events: u64) -> Result<Self, OutOfMemory>
         requires capacity { capacity ≤ MOST_RUNS }
         requires events { events ≤ MOST_CACHED_EVENTS }
         ensures { IfOk result (λ cache. cache ≡ cache_view [] capacity events) }
     {
-        // One place more than the capacity: a new run is added before the last one goes.
+        // One place more than the capacity: a new run is added before the last one is evicted.
         let places = NonZeroUsize::MIN.saturating_add(capacity);
         Ok(Sticky {
             alloc,
@@ -106,7 +106,7 @@ impl<W: Workflow> Sticky<W> {
         Some(Run::from_parts(key, weighed.into_history()))
     }
 
-    /// Drops the run of the key, and says whether there was one.
+    /// Drops the run of the key, and returns whether there was one.
     pub fn evict(&mut self, key: &RunKey) -> bool
         ensures found { result ≡ is_some (lookup (same_key key.now) self.old.runs) }
         ensures runs { self.new ≡ record self.old { runs = remove_entry (same_key key.now) self.old.runs } }
@@ -116,7 +116,7 @@ impl<W: Workflow> Sticky<W> {
         found
     }
 
-    /// The history of the run of the key, if there is one. The order of use stays.
+    /// Returns the history of the run of the key, if there is one. The order of use stays.
     pub fn peek(&self, key: &RunKey) -> Option<&ReplayedHistory<W>>
         ensures { option_map (λ history. history.now) result ≡ lookup (same_key key.now) self.now.runs }
     {
@@ -124,7 +124,7 @@ impl<W: Workflow> Sticky<W> {
         Some(weighed.history())
     }
 
-    /// How many events the run of the key holds, if there is one. The order of use stays.
+    /// Returns how many events the run of the key holds, if there is one. The order of use stays.
     pub fn peek_len(&self, key: &RunKey) -> Option<usize>
         ensures { result ≡ option_map (λ history. length history.events) (lookup (same_key key.now) self.now.runs) }
     {
@@ -132,8 +132,8 @@ impl<W: Workflow> Sticky<W> {
         Some(history.len())
     }
 
-    /// How many runs are cached. Both bounds hold, no two runs have one key, and each is what
-    /// replay of its held events gives.
+    /// Returns how many runs are cached. Both bounds hold, no two runs have the same key, and each
+    /// run is what replay of its held events gives.
     pub fn len(&self) -> usize
         ensures len { result ≡ length self.now.runs }
         ensures sound { IsSound W.program self.now }
@@ -141,16 +141,16 @@ impl<W: Workflow> Sticky<W> {
         self.runs.len()
     }
 
-    /// The weight of the cached runs together.
+    /// Returns the weight of all cached runs together.
     pub fn held(&self) -> u64
         ensures { result ≡ held_by self.now.runs }
     {
         self.held
     }
 
-    /// Puts a run in front, in place of the one of its key, and drops runs from the back until both
-    /// bounds hold. Else the run comes back, and the cache stays as it was: `Off`, `Shorter`,
-    /// `TooLarge` and `NoMemory` are tried in this order.
+    /// Puts the run in front, where it replaces the one of its key, and evicts runs from the back
+    /// until both bounds hold. If `Off`, `Shorter`, `TooLarge` or `NoMemory` applies, tried in this
+    /// order, returns the run and leaves the cache as it was.
     pub fn put(&mut self, run: Run<W>) -> Put<W>
         ensures { Puts self.old run self.new (put_reply_of result) }
     {
@@ -170,9 +170,8 @@ impl<W: Workflow> Sticky<W> {
         }
     }
 
-    /// Puts a run in front that the cache takes, in place of the one of its key, and hands out
-    /// those that have to go, the least recently used first. The run comes back where no memory was
-    /// found.
+    /// Puts a run that may enter in front, where it replaces the one of its key, and returns the
+    /// evicted runs, the least recently used first. Returns the run if there was no memory.
     fn enter(&mut self, run: Run<W>) -> Result<Vec<Run<W>>, Run<W>>
         requires { MayEnter self.old run }
         ensures entered { IfOk result (λ gone. Enters self.old run self.new gone.items) }
@@ -189,7 +188,7 @@ impl<W: Workflow> Sticky<W> {
         Ok(gone)
     }
 
-    /// Whether the cache takes no runs.
+    /// Whether the cache keeps no runs.
     fn is_off(&self) -> bool
         ensures { IsTrue result ↔ (self.now.capacity ≡ 0) }
     {
@@ -213,8 +212,8 @@ impl<W: Workflow> Sticky<W> {
         self.bound != 0 && self.bound < weight_of(run)
     }
 
-    /// How many runs have to go, the last first, once this one is in front. It is what replay of
-    /// its held events gives.
+    /// Counts the runs to evict, the last first, once this run is in front. The run is what replay
+    /// of its held events gives.
     fn going(&self, run: &Run<W>) -> usize
         requires { MayEnter self.now run.now }
         ensures count { result < length (with_first (entry_of run.now) self.now.runs) }
@@ -230,7 +229,7 @@ impl<W: Workflow> Sticky<W> {
         going_beside(&self.runs, run.key(), count, held, self.capacity - 1, left)
     }
 
-    /// How many runs of other keys are cached. No two runs have one key.
+    /// Counts the cached runs of other keys. No two runs have the same key.
     fn others(&self, key: &RunKey) -> usize
         ensures distinct { IsDistinct same_key (keys_of self.now.runs) }
         ensures count { result ≡ length (remove_entry (same_key key.now) self.now.runs) }
@@ -242,7 +241,8 @@ impl<W: Workflow> Sticky<W> {
     }
 }
 
-/// How much weight fits beside this. Where there is no bound, all that a cache may hold does.
+/// Returns how much weight fits beside `added`. If there is no bound, all that a cache may hold
+/// fits.
 fn room_beside(bound: u64, added: u64) -> u64
     requires { bound ≢ 0 → added ≤ bound }
     ensures some { bound ≢ 0 → result + added ≡ bound }
@@ -251,7 +251,8 @@ fn room_beside(bound: u64, added: u64) -> u64
     if bound == 0 { u64::MAX } else { bound - added }
 }
 
-/// Room for so many runs. None is needed for no run.
+/// Returns an empty list with room for `count` runs, or `None` if there was no memory for it. A
+/// list for no run needs no memory.
 fn room_for<W: Workflow>(alloc: Global, count: usize) -> Option<Vec<Run<W>>>
     ensures { MatchOption result (0 < count) (λ room. (room.items ≡ []) × (count ≤ vec_capacity room)) }
 {
@@ -262,7 +263,8 @@ fn room_for<W: Workflow>(alloc: Global, count: usize) -> Option<Vec<Run<W>>>
     Some(room)
 }
 
-/// Puts the run in front, in place of the one of its key, which takes no memory where there is one.
+/// Puts the run in front. It replaces the run of its key, if there is one, without any memory. Else
+/// the run comes back if there was no memory.
 fn put_first<W: Workflow>(
     runs: &mut LruCache<RunKey, Weighed<W>>,
     held: &mut u64,
@@ -292,7 +294,7 @@ fn put_first<W: Workflow>(
     }
 }
 
-/// The weight of the run of the key, 0 where there is none.
+/// Returns the weight of the run of the key, or 0 if there is none.
 fn replaced_weight<W: Workflow>(runs: &LruCache<RunKey, Weighed<W>>, key: &RunKey) -> u64
     ensures held { held_by (remove_entry (same_key key.now) runs.now.entries) + result ≡ held_by runs.now.entries }
     ensures most { result ≤ MOST_WEIGHT }
@@ -303,9 +305,9 @@ fn replaced_weight<W: Workflow>(runs: &LruCache<RunKey, Weighed<W>>, key: &RunKe
     }
 }
 
-/// How many of the other runs, `count` of the weight `held`, have to go beside one of this key, the
-/// last first, where `room` runs of the weight `left` fit. It visits those that go, and at most the
-/// run of the key besides.
+/// Counts the runs to evict beside one of this key, the last first. There are `count` other runs of
+/// the weight `held`, and `room` runs of the weight `left` fit. Visits only those to evict, and
+/// perhaps the run of the key.
 fn going_beside<W: Workflow>(
     runs: &LruCache<RunKey, Weighed<W>>,
     key: &RunKey,
@@ -338,7 +340,7 @@ fn going_beside<W: Workflow>(
     going
 }
 
-/// Moves the last runs out, the least recently used first.
+/// Moves the last `count` runs into `gone`, the least recently used first.
 fn push_out<W: Workflow>(
     runs: &mut LruCache<RunKey, Weighed<W>>,
     held: &mut u64,

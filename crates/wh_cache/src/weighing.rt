@@ -1,4 +1,4 @@
-//! What cached runs weigh.
+//! The weight of a cached run.
 
 ghost use Rattle.std.specs.Prelude.{◌≡◌, ◌≤◌, min, sum_by};
 ghost use Rattle.wh_replay.specs.Runs.{history_of};
@@ -15,8 +15,8 @@ const MOST_INPUT_BYTES: u64 = 4_294_967_296;
 /// The largest weight of a run: 51,200 events, and 4 GiB of input.
 pub const MOST_WEIGHT: u64 = 4_245_504;
 
-/// The weight of a run: one for each held event, and one for each whole KiB of its input, of which
-/// at most 4 GiB count.
+/// Returns the weight of a run: one for each event that it holds, and one for each whole KiB of its
+/// input. At most 4 GiB of the input count.
 pub(crate) fn weight_of<W: Workflow>(run: &Run<W>) -> u64
     ensures weight { result ≡ weight_of run.now.events }
     ensures most { result ≤ MOST_WEIGHT }
@@ -25,7 +25,7 @@ pub(crate) fn weight_of<W: Workflow>(run: &Run<W>) -> u64
     run.held_len() as u64 + bytes / 1024
 }
 
-/// The input of a run; nothing where the first event doesn't start it.
+/// Returns the input of a run, or nothing if the first event doesn't start the run.
 fn input_of(events: &[Event]) -> &[Payload]
     ensures { result.now ≡ input_of events.now }
 {
@@ -37,7 +37,7 @@ fn input_of(events: &[Event]) -> &[Payload]
     &[]
 }
 
-/// How many bytes the payloads have together, with the names of their encodings: at most 2^64 - 1.
+/// Counts the bytes of the payloads, with the names of their encodings. Stops at 2^64 - 1.
 fn bytes_of(payloads: &[Payload]) -> u64
     ensures { result ≡ min (sum_by payload_bytes payloads.now) u64.MAX }
 {
@@ -71,7 +71,7 @@ impl<W: Workflow> Model for Weighed<W> {
 }
 
 impl<W: Workflow> Weighed<W> {
-    /// The key of a run, and its weighed history.
+    /// Splits a run into its key and its weighed history.
     pub(crate) fn of(run: Run<W>) -> (RunKey, Self)
         ensures key { result.0 ≡ run.key }
         ensures history { result.1 ≡ history_of run }
@@ -81,7 +81,7 @@ impl<W: Workflow> Weighed<W> {
         (key, Weighed { history, weight })
     }
 
-    /// The weight of the run.
+    /// Returns the weight of the run.
     pub(crate) fn weight(&self) -> u64
         ensures weight { result ≡ weight_of self.now.events }
         ensures most { result ≤ MOST_WEIGHT }
@@ -89,14 +89,14 @@ impl<W: Workflow> Weighed<W> {
         self.weight
     }
 
-    /// The history.
+    /// Returns the history.
     pub(crate) fn history(&self) -> &ReplayedHistory<W>
         ensures { result.now ≡ self.now }
     {
         &self.history
     }
 
-    /// The history, no longer weighed.
+    /// Returns the history without its weight.
     pub(crate) fn into_history(self) -> ReplayedHistory<W>
         ensures { result ≡ self }
     {

@@ -1,4 +1,4 @@
-//! What looks on while the workers of a host run.
+//! Companions, which observe a host while its workers run.
 
 ghost use Rattle.std.specs.Prelude.{◌≡◌, is_some};
 
@@ -9,21 +9,21 @@ use wh_host::{Counts, Host};
 use wh_ledger::Seat;
 use wh_workflow::Workflow;
 
-/// Looks on while the workers of a host run, in a thread beside them: it says when it wants to know
-/// what the host counts, and is told.
+/// Observes a host while its workers run, in a thread beside them. It decides when it needs the
+/// counts of the host, and then gets them.
 pub trait Companion {
-    /// Waits until it wants to know what the host counts, and says whether it does. Once it does not,
-    /// it is done, and is not called again. The host is closed only then, so the companion is to
-    /// look at the signal: where the workers have ended, or where they have not begun because there
-    /// is no thread for the companion beside them, it does not go on waiting.
+    /// Waits until it needs the counts of the host, and returns `true`. Returns `false` when it is
+    /// done. It is not called again then. The host is closed only after that, so the companion must
+    /// look at the signal: it must not go on waiting if the workers have ended, or if they have not
+    /// begun because there is no thread for the companion beside them.
     fn wait(&self, signal: &EndSignal) -> bool;
 
-    /// This is what the host has counted, and what it caches and holds now; `None` where the workers
+    /// Receives what the host counted, and what it caches and holds now, or `None` if the workers
     /// take all seats that a host may have.
     fn report(&self, counts: Option<Counts>);
 }
 
-/// No companion: it wants to know nothing.
+/// No companion: it is done at once.
 #[derive(Drop)]
 pub struct NoCompanion;
 
@@ -35,7 +35,7 @@ impl Companion for NoCompanion {
     fn report(&self, _counts: Option<Counts>) {}
 }
 
-/// What the host counts, caches and holds, where there is a seat for that.
+/// Returns what the host counts, caches and holds, if there is a seat for that.
 fn counts_at<R: Wait, W: Workflow, T: Ledger, C: Ledger, F: Ledger>(
     rt: &R,
     host: &Host<W, T, C, F>,
@@ -50,8 +50,8 @@ fn counts_at<R: Wait, W: Workflow, T: Ledger, C: Ledger, F: Ledger>(
     }
 }
 
-/// Reports to the companion what the host counts, as often as it wants to know. The seat counts
-/// nothing, and comes back as it was.
+/// Reports the counts of the host to the companion, as often as the companion needs them. The seat
+/// counts nothing, and comes back as it was.
 pub fn accompany<R: Wait, W: Workflow, T: Ledger, C: Ledger, F: Ledger, P: Companion>(
     rt: &R,
     host: &Host<W, T, C, F>,

@@ -1,4 +1,4 @@
-//! The signal by which it is known that the workers of a host have ended.
+//! A signal that the workers of a host have ended.
 
 use std::sync::{Condvar, Mutex, Wait};
 use std::time::{Clock, Duration};
@@ -14,7 +14,8 @@ enum Stage {
     Ended,
 }
 
-/// Says how far the workers of a host have come, to who waits for their end in another thread.
+/// Shows how far the workers of a host have come, and wakes another thread that waits for their
+/// end.
 #[derive(Drop)]
 pub struct EndSignal {
     stage: Mutex<Stage>,
@@ -22,7 +23,7 @@ pub struct EndSignal {
 }
 
 impl EndSignal {
-    /// The workers have not begun.
+    /// Returns a signal that the workers have not begun.
     pub fn new() -> EndSignal {
         EndSignal {
             stage: Mutex::new(Stage::Waiting),
@@ -30,18 +31,19 @@ impl EndSignal {
         }
     }
 
-    /// The workers begin.
+    /// Signals that the workers begin.
     pub fn begin<R: Wait>(&self, rt: &R) {
         *self.stage.lock(rt) = Stage::Working;
     }
 
-    /// The workers have ended: who waits for that goes on.
+    /// Signals that the workers have ended, and wakes all threads that wait for that.
     pub fn end<R: Wait>(&self, rt: &R) {
         *self.stage.lock(rt) = Stage::Ended;
         self.changed.notify_all();
     }
 
-    /// Waits so long, or until the workers have ended, and says whether they work then.
+    /// Waits until the workers have ended, but no longer than `most`. Returns whether the workers
+    /// work then.
     pub fn wait<R: Wait + Clock>(&self, rt: &R, most: Duration) -> bool {
         let stage = self.stage.lock(rt);
         let (stage, _waited) = self.changed.wait_timeout_while(rt, stage, most, |stage| {

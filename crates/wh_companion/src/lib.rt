@@ -1,4 +1,5 @@
-//! What looks on beside the workers of a host, and the seat at which it reads what they count.
+//! Companions, which observe a host beside its workers, and the seat that they read its counts
+//! from.
 #![tactic(auto)]
 
 mod companion;

@@ -1,4 +1,4 @@
-//! A seat beside those of the workers.
+//! A spare seat beside those of the workers.
 
 ghost use Rattle.std.specs.Prelude.{◌≡◌, ◌≤◌, ◌<◌, ◌+◌, ◌++◌, ◌↔◌, length, vec_capacity, vec_len};
 ghost use Rattle.wh_host.specs.Machine.{IsConfig};
@@ -8,8 +8,8 @@ use std::sync::ledger::Ledger;
 use wh_host::{Config, MOST_SEATS};
 use wh_ledger::Seat;
 
-/// The sizes of a host that has one seat beside those of its workers, where it is wanted and a host
-/// may have as many.
+/// Returns the sizes of a host with one seat more, if `is_wanted` is set, there is a seat, and a
+/// host may have one more. Else returns the sizes as they are.
 pub fn with_spare(config: Config, is_wanted: bool) -> Config
     ensures sizes { result ≡ with_spare config is_wanted }
     ensures seats { (config.seats ≤ result.seats) × (result.seats ≤ config.seats + 1) }
@@ -25,8 +25,8 @@ pub fn with_spare(config: Config, is_wanted: bool) -> Config
     }
 }
 
-/// Takes the seat out that is there beside one for each of so many workers, if there is one. The room
-/// for it stays.
+/// Takes out the spare seat beside one seat for each of the workers, if there is one. The list
+/// keeps the room for it.
 pub fn take_spare<T: Ledger, C: Ledger, F: Ledger>(
     seats: &mut Vec<Seat<T, C, F>>,
     workers: usize,
@@ -42,7 +42,7 @@ pub fn take_spare<T: Ledger, C: Ledger, F: Ledger>(
     seats.pop()
 }
 
-/// Puts the seat back that was taken out, if one was. There is room for it.
+/// Puts the spare seat back, if one was taken out. The list has room for it.
 pub fn put_spare<T: Ledger, C: Ledger, F: Ledger>(
     seats: &mut Vec<Seat<T, C, F>>,
     spare: Option<Seat<T, C, F>>,

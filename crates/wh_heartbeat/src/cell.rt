@@ -1,4 +1,4 @@
-//! The activity task that a worker runs, for its source and its handler.
+//! The activity task that a worker runs, shared by its source and its handler.
 
 ghost use Rattle.std.specs.Prelude.{◌≡◌};
 ghost use Rattle.wh_heartbeat.specs.Cells.{noted, was_canceled};
@@ -9,21 +9,21 @@ use wh_events::{OutOfMemory, Text};
 /// The activity task that a worker runs.
 #[derive(Debug, Drop)]
 struct RunningActivity {
-    /// The token under which it is answered.
+    /// The task token under which it is answered.
     token: Text,
-    /// Whether a beat was told that it is to be canceled.
+    /// Whether the response to a heartbeat said that it is to be canceled.
     is_canceled: bool,
 }
 
 impl RunningActivity {
-    /// Whether it is the task of this token, and is to be canceled.
+    /// Whether this is the task of the token, and is to be canceled.
     fn was_canceled(&self, token: &str) -> bool
         ensures { result ≡ was_canceled self.now token.now }
     {
         self.is_canceled && self.token.get() == token
     }
 
-    /// Notes that the task of this token is to be canceled.
+    /// Notes that the task is to be canceled, if it is the one of the token.
     fn note_cancel(&mut self, token: &str)
         ensures { self.new ≡ noted self.old token.now }
     {
@@ -33,24 +33,24 @@ impl RunningActivity {
     }
 }
 
-/// What a worker's source and the handler of its activities know of the task that it runs. The source
-/// says which one it is, and the handler's heartbeat whether it is to be canceled. Each may be in
-/// another thread, so contracts do not see what it holds.
+/// What a worker's source and the handler of its activities know of the task that it runs. The
+/// source sets which task it is, and the handler's heartbeat whether it is to be canceled. The
+/// threads of both may differ, so contracts don't see what the cell holds.
 #[derive(Drop)]
 pub struct ActivityCell {
     running: Mutex<Option<RunningActivity>>,
 }
 
 impl ActivityCell {
-    /// No task runs.
+    /// Returns a cell for a worker that runs no task.
     pub fn new() -> ActivityCell {
         ActivityCell {
             running: Mutex::new(None),
         }
     }
 
-    /// The task of this token runs now, and the one before no more. Where there is no memory for the
-    /// copy none runs, as far as the cell knows.
+    /// Notes that the task of this token runs now, in place of the one before. If there is no
+    /// memory for a copy of the token, the cell holds no task.
     pub fn begin<R: Wait>(&self, rt: &R, token: &Text) {
         *self.running.lock(rt) = match token.try_copy() {
             Ok(token) => Some(RunningActivity {
@@ -61,7 +61,8 @@ impl ActivityCell {
         };
     }
 
-    /// The token of the task that runs. `OutOfMemory` where there was no memory for the copy.
+    /// Returns a copy of the token of the task that runs, if one does. Returns `OutOfMemory` if
+    /// there was no memory for the copy.
     pub fn token<R: Wait>(&self, rt: &R) -> Result<Option<Text>, OutOfMemory> {
         match &*self.running.lock(rt) {
             Some(running) => Ok(Some(running.token.try_copy()?)),

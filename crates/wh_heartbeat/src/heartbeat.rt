@@ -1,43 +1,44 @@
-//! What handlers beat by.
+//! Heartbeats, and the responses to them.
 
 ghost use Rattle.std.specs.Prelude.{IfOk};
 
 use wh_events::{OutOfMemory, Payload};
 
-/// What a heartbeat brought.
+/// The response to a heartbeat.
 #[derive(Clone, Copy, PartialEq, Eq, Debug)]
 pub enum HeartbeatResponse {
     /// The activity goes on.
     GoOn,
-    /// The activity is to be canceled. A handler that then fails has given up, and is answered for as
-    /// canceled; one that completes is answered for as completed.
+    /// The activity is to be canceled. If the handler then fails, the activity is answered as
+    /// canceled. If the handler completes, the activity is answered as completed.
     CancelRequested,
-    /// No answer to the task will be taken: the server has it no more, as it timed out or its run has
-    /// closed, or the connection has closed.
+    /// The task can't be answered any more: it timed out or its run has closed, so that the server
+    /// has dropped it, or the connection has closed.
     Gone,
-    /// Nothing was heard: the server or the bridge refused the call or gave up. The activity goes on, and
-    /// may beat again.
+    /// There was no response: the server or the bridge refused the call or gave up. The activity
+    /// goes on, and its handler can send another heartbeat.
     Unheard,
 }
 
-/// By what the handler of a worker tells that its activity goes on (Temporal documentation, "Activity
-/// Heartbeat"). A handler that is made with one may beat during `run`, for the task that it runs.
+/// Sends heartbeats for the activity that a worker's handler runs (Temporal documentation,
+/// "Activity Heartbeat"). A handler with a heartbeat can send heartbeats during `run`, for the task
+/// that it runs.
 pub trait Heartbeat {
     ghost use Rattle.std.specs.Prelude.{List};
     ghost use Rattle.wh_events.specs.declared.event.Payload.{Payload};
     ghost use Rattle.wh_heartbeat.specs.declared.heartbeat.HeartbeatResponse.{HeartbeatResponse};
 
-    /// What a beat with such details may bring.
+    /// Which responses a heartbeat with these details may get.
     ghost brings: { List Payload → HeartbeatResponse → Type 0 };
 
-    /// Tells that the activity goes on, with details that a later attempt may be given, and says what
-    /// was heard. `OutOfMemory` where there was no memory for the call: nothing was told then, and the
-    /// handler may beat again.
+    /// Sends a heartbeat and returns the response. The server may pass the details to a later
+    /// attempt. Returns `OutOfMemory` if there was no memory for the call. Nothing was sent then,
+    /// and the handler can send another heartbeat.
     fn send(&mut self, details: &[Payload]) -> Result<HeartbeatResponse, OutOfMemory>
         ensures { IfOk result (brings details.now) };
 }
 
-/// HeartbeatResponses that reach nobody, for tasks that no server gave: the activity goes on.
+/// Sends no heartbeats, for tasks that came from no server: each response is `GoOn`.
 #[derive(Drop)]
 pub struct NoHeartbeat;
 

@@ -1,8 +1,9 @@
-//! Heartbeats of activities: what a handler tells while it works, and what it hears of that.
+//! Heartbeats of activities: a handler sends them while its activity runs, and gets a response to
+//! each.
 #![tactic(auto)]
 
 mod cell;
 mod heartbeat;
 
 pub use cell::ActivityCell;
-pub use heartbeat::{HeartbeatResponse, Heartbeat, NoHeartbeat};
+pub use heartbeat::{Heartbeat, HeartbeatResponse, NoHeartbeat};

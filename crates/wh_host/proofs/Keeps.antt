@@ -1,4 +1,4 @@
--- Each step keeps what holds of every state.
+-- Each step keeps what holds for every state.
 use Rattle.std.proofs.Common.{◌≡◌, ℕ, zero, suc, ◌+◌, ◌<◌, ◌≤◌, Bool, true, false, List, [], ◌∷◌, length, Option, Some, None, replicate, lit≤, refl, sym, ap, ◌∙◌, subst, arith}
 use Rattle.std.specs.Prelude.{map, count_by, cond, is_some, Result, Ok, Err, IfOk, IfErr, OnOk, OnErr, slice_get, slice_set}
 use Rattle.std.specs.Map.{remove_entry}

@@ -1,4 +1,4 @@
--- The host as a machine: its state, its calls with their replies, and the step that each call is.
+-- The host as a machine: its state, its calls with their results, and the step of each call.
 use Rattle.std.specs.Prelude.{◌||◌, cond, map, ◌≡◌, ℕ, ◌+◌, ◌-◌, ◌<◌, ◌≤◌, Bool, true, false, List, [], ◌∷◌, length, replicate, Option, Some, None, is_some, Result, Ok, MatchResult, slice_get, slice_set, option_map}
 use Rattle.std.specs.declared.sync.ledger.Blank.{Blank}
 use Rattle.std.specs.Map.{lookup, lookup_entry, remove_entry}
@@ -58,7 +58,7 @@ opening workflow_slots activity_slots capacity bound =
       books = no_shares;
     }
 
--- how large a host may be
+-- each size of a host is within its range
 pub record IsConfig (config : Config) : Type 0 where
   pub workflow : (0 < config.workflow_slots) × (config.workflow_slots ≤ 1000)
   pub activity : (0 < config.activity_slots) × (config.activity_slots ≤ 1000)
@@ -82,31 +82,30 @@ AllMarked [] (m ∷ ms) = ⊥
 AllMarked (p ∷ ps) [] = ⊥
 AllMarked (p ∷ ps) (m ∷ ms) = (is_any_held p ≡ is_some m) × AllMarked ps ms
 
--- how many tasks are in hand
+-- how many tasks are being processed
 abbrev pub in_hand : HostView → ℕ
 in_hand v = held_count v.workflow + held_count v.activity
 
--- what is gathered, with what taken leaves over completed and failed
+-- what all seats counted, with the tasks taken that were neither completed nor failed
 abbrev pub totals_of : Shares → Totals
 totals_of s =
     record { taken = s.taken; completed = s.completed; failed = s.failed; in_hand = s.taken - s.completed - s.failed }
 
--- what holds of every state
+-- what holds for every state
 pub record IsHost {S : Type 0} (program : Program S) (v : HostView) : Type 0 where
-  -- each place is free, reserved under a number, or held under a number and a name, no number or
-  -- name twice
+  -- each place is free, reserved under a number, or held under a number and a name, and no number or name occurs twice
   pub workflow : IsTable v.workflow
   pub activity : IsTable v.activity
   pub kinds : (v.workflow.kind ≡ Workflow) × (v.activity.kind ≡ Activity)
   pub draining : v.workflow.draining ≡ v.activity.draining
   pub marked : AllMarked v.workflow.places v.marks
-  -- each task taken is completed, failed or in hand
+  -- each task taken is completed, failed or being processed
   pub counted : v.books.taken ≡ v.books.completed + v.books.failed + in_hand v
   -- each number given out was used at most once, and not while it is reserved
   pub numbered :
       v.books.taken + reserved_count v.workflow + reserved_count v.activity + 2 ≤ v.workflow.next + v.activity.next
-  -- both bounds of the cache hold, no two runs have one key, and the machines, versions and unsent
-  -- commands of each are those that replay of its held events from the first gives
+  -- both bounds of the cache hold, no two runs have the same key, and each run has the machines, versions and unsent
+  -- commands that replay of its held events from the first gives
   pub cached : IsSound program v.cache
 
 -- the places of a kind
@@ -114,19 +113,19 @@ abbrev pub table_of : HostView → SlotKind → Table
 table_of v Workflow = v.workflow
 table_of v Activity = v.activity
 
--- what is answered to a run that is given back
+-- the result of giving a run back
 pub data GiveReply : Type 0 where
   IsPut : PutReply → GiveReply
   IsMarked : HeldRun → GiveReply
   IsNotHeld : HeldRun → GiveReply
 
--- what contracts see of an answer of `give_run`
+-- what contracts see of a result of `give_run`
 abbrev pub give_reply_of : {W S : Type 0} → Given W S → GiveReply
 give_reply_of (Put put) = IsPut (put_reply_of put)
 give_reply_of (Marked back) = IsMarked back
 give_reply_of (NoPlace back) = IsNotHeld back
 
--- a call under the lock, with what was handed in and its reply
+-- a call under the lock, with its arguments and its result
 pub data Call : Type 0 where
   Reserve : SlotKind → Result Claim ReserveFault → Call
   Release : Claim → Result (Unit {0}) (Claim × NotReserved) → Call
@@ -138,19 +137,19 @@ pub data Call : Type 0 where
   Drain : Call
   ReadCounts : Counts → Call
 
--- another place at an index
+-- the table with this place at an index
 abbrev pub with_place : Table → ℕ → Place → Table
 with_place t i place = record t { places = slice_set t.places i place }
 
--- no run of the key
+-- the cache without the run of the key
 abbrev pub without_run : CacheView → RunKey → CacheView
 without_run cache key = record cache { runs = remove_entry (same_key key) cache.runs }
 
--- one task more was taken
+-- the books after one more task was taken
 abbrev pub with_taken : Shares → Shares
 with_taken books = record books { taken = books.taken + 1 }
 
--- a free place is reserved under the next number, or the first reason why not is told
+-- a free place is reserved under the next number, or the call fails for the first reason that applies
 abbrev pub reserve_step : HostView → SlotKind → Result Claim ReserveFault → HostView → Type 0
 reserve_step old Workflow reply new =
     MatchResult reply
@@ -161,7 +160,7 @@ reserve_step old Activity reply new =
     (λ permit. Reserves old.activity new.activity permit × (new ≡ record old { activity = new.activity }))
     (λ fault. IsReserveFault old.activity fault × (new ≡ old))
 
--- the place that is reserved under the permit is free, or the permit comes back
+-- the place that was reserved under the permit is free, or no place is reserved under it and the permit comes back
 abbrev pub release_step : HostView → SlotKind → Claim → Result (Unit {0}) (Claim × NotReserved) → HostView → Type 0
 release_step old Workflow permit reply new =
     MatchResult reply
@@ -172,8 +171,8 @@ release_step old Activity permit reply new =
     (λ _. Releases old.activity new.activity permit × (new ≡ record old { activity = new.activity }))
     (λ refused. (refused.0 ≡ permit) × (¬ IsReserved old.activity permit) × (new ≡ old))
 
--- the workflow place that is reserved under the permit is held by the task, with the key and no
--- mark for eviction; the cached run of the key is handed out, and the task is counted as taken
+-- the task holds the workflow place that was reserved under the permit, with the key and no mark for eviction; the
+-- cached run of the key leaves the cache and is returned, and the task is counted as taken
 pub record UsesWorkflow (old : HostView) (permit : Claim) (name : TaskName) (key : RunKey) (held : Claim)
     (run : Option HeldRun) (new : HostView) : Type 0 where
   pub own_kind : permit.0 ≡ Workflow
@@ -191,7 +190,7 @@ pub record UsesWorkflow (old : HostView) (permit : Claim) (name : TaskName) (key
         books = with_taken old.books;
       }
 
--- the activity place that is reserved under the permit is held by the task
+-- the task holds the activity place that was reserved under the permit, and is counted as taken
 abbrev pub UsesActivity : HostView → Claim → TaskName → Claim → HostView → Type 0
 UsesActivity old permit name held new =
     Uses old.activity new.activity permit name held
@@ -210,8 +209,8 @@ HoldsRun v held key evicted =
     × (slice_get v.workflow.places i ≡ Some (InHand held.1 name))
     × is_marked_at v.marks i key evicted)
 
--- the run comes back where no workflow place is held under the number with the run's key, or where
--- that place is marked; else it is put into the cache
+-- the run comes back if no workflow place is held under the number with the run's key, or if that place is marked for
+-- eviction; else it is put into the cache
 abbrev pub give_step : HostView → Claim → HeldRun → GiveReply → HostView → Type 0
 give_step old held run (IsNotHeld back) new =
     ((evicted : Bool) → ¬ HoldsRun old held run.key evicted) × (back ≡ run) × (new ≡ old)
@@ -234,12 +233,12 @@ abbrev pub evicted_for : RunKey → Option Mark → Option Mark
 evicted_for key None = None
 evicted_for key (Some mark) = Some (record mark { evicted = same_key key mark.key || mark.evicted })
 
--- whether the run of the key was cached, or else whether some held place has the key
+-- the result of evicting a key: whether its run was cached, or else whether some held place has the key
 abbrev pub evict_reply : HostView → RunKey → Evict
 evict_reply v key =
     cond (is_some (lookup (same_key key) v.cache.runs)) Evicted (cond (has_mark key v.marks) OnlyMarked NotCached)
 
--- what the counts show
+-- the counts of a state
 abbrev pub counts_of : HostView → Counts
 counts_of v =
     record {
@@ -257,12 +256,12 @@ counts_of v =
 abbrev pub books_of : Counts → Shares
 books_of counts = record { taken = counts.taken; completed = counts.completed; failed = counts.failed }
 
--- one task more with this outcome
+-- the books after one more task was finished with this outcome
 abbrev pub with_outcome : Outcome → Shares → Shares
 with_outcome Completed books = record books { completed = books.completed + 1 }
 with_outcome Failed books = record books { failed = books.failed + 1 }
 
--- the held place is free, its mark goes, and the outcome is counted
+-- the held place is free and has no mark, and the outcome is counted
 abbrev pub finishes : HostView → SlotKind → ℕ → Outcome → HostView → Type 0
 finishes old Workflow number outcome new =
     (i : ℕ) × (name : TaskName) × (slice_get old.workflow.places i ≡ Some (InHand number name))
@@ -276,8 +275,7 @@ finishes old Activity number outcome new =
     (i : ℕ) × (name : TaskName) × (slice_get old.activity.places i ≡ Some (InHand number name))
     × (new ≡ record old { activity = with_place old.activity i Free; books = with_outcome outcome old.books })
 
--- the call leads from the old state to the new one; a refusal hands back what was moved in, and
--- changes nothing
+-- the call leads from the old state to the new one; a refused call returns what was moved in, and changes nothing
 abbrev pub step : HostView → Call → HostView → Type 0
 step old (Reserve kind reply) new = reserve_step old kind reply new
 step old (Release permit reply) new = release_step old permit.0 permit reply new
@@ -305,23 +303,22 @@ step old Drain new =
       activity = record old.activity { draining = true };
     }
 
--- a list of calls leads from one state to another
+-- the list of calls leads from the old state to the new one
 abbrev pub Steps : HostView → List Call → HostView → Type 0
 Steps old [] new = new ≡ old
 Steps old (e ∷ es) new = (next : HostView) × step old e next × Steps next es new
 
--- a run that is given back is what replay of its held events from the first gives
+-- if the call gives a run back, the run is what replay of its held events from the first gives
 abbrev pub GivesReplayed : {S : Type 0} → Program S → Call → Type 0
 GivesReplayed program (GiveRun held run reply) = IsReplayed program (history_of run)
 GivesReplayed program _ = Unit {0}
 
--- so is each run that the calls give back
+-- each run that the calls give back is what replay of its held events from the first gives
 abbrev pub AllReplayedGiven : {S : Type 0} → Program S → List Call → Type 0
 AllReplayedGiven program [] = Unit {0}
 AllReplayedGiven program (e ∷ es) = GivesReplayed program e × AllReplayedGiven program es
 
--- the books after a call: an accepted use is a task taken, an accepted finish one completed or
--- failed
+-- the books after a call: an accepted use is a task taken, and an accepted finish a task completed or failed
 abbrev pub tallied : Call → Shares → Shares
 tallied (UseWorkflow permit name key (Ok r)) s = with_taken s
 tallied (UseActivity permit name (Ok r)) s = with_taken s
@@ -333,14 +330,13 @@ abbrev pub tally_from : Shares → List Call → Shares
 tally_from s [] = s
 tally_from s (e ∷ es) = tally_from (tallied e s) es
 
--- every list of steps from an opening state that gives back replayed runs keeps what holds of every
--- state
+-- after every list of steps from an opening state that gives back only replayed runs, `IsHost` holds
 abbrev pub StepsKeepHosts : {S : Type 0} → Program S → Type 0
 StepsKeepHosts program =
     (config : Config) (calls : List Call) (end : HostView) → IsConfig config → AllReplayedGiven program calls
     → Steps (opening_of config) calls end → IsHost program end
 
--- the books of a state that steps lead to are what those steps count
+-- the books of a state that steps from an opening state lead to are what those steps count
 abbrev pub StepsAreCounted : Type 0
 StepsAreCounted =
     (config : Config) (calls : List Call) (end : HostView) → Steps (opening_of config) calls end

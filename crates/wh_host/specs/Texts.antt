@@ -1,4 +1,4 @@
--- What is shown of the counts of a host.
+-- The text of the counts of a host.
 use Rattle.std.specs.Prelude.{ℕ, List, ◌++◌, codes, decimal}
 use Rattle.wh_host.specs.declared.reply.Totals.{Totals}
 

@@ -1,4 +1,4 @@
-//! How large a host is, and why none was opened.
+//! The sizes of a host, and why a host was not opened.
 
 ghost use Rattle.std.specs.Prelude.{◌≡◌, ◌↔◌, IsTrue};
 ghost use Rattle.wh_host.specs.Machine.{IsConfig};
@@ -11,24 +11,24 @@ use wh_slots::MOST_SLOTS;
 /// The most seats of a host, and so the most threads that share it.
 pub const MOST_SEATS: usize = 64;
 
-/// How large a host is.
+/// The sizes of a host.
 #[derive(Clone, Copy, PartialEq, Eq, Debug)]
 pub struct Config {
-    /// How many workflow tasks may be in hand at once: 1 to 1,000.
+    /// How many workflow tasks may be processed at once: 1 to 1,000.
     pub workflow_slots: usize,
-    /// How many activity tasks may be in hand at once: 1 to 1,000.
+    /// How many activity tasks may be processed at once: 1 to 1,000.
     pub activity_slots: usize,
     /// How many runs may be cached: 0 to 10,000, where 0 turns the cache off.
     pub cache: usize,
-    /// How much the cached runs may weigh together, one for each held event and one for each whole
-    /// KiB of a run's input: 0 for no such bound, else 1 to 512,000,000.
+    /// The most that all cached runs together may weigh, one for each held event and one for each
+    /// whole KiB of a run's input: 1 to 512,000,000, or 0 for no such bound.
     pub cache_events: u64,
     /// How many threads count tasks, each at a seat of its own: 1 to 64.
     pub seats: usize,
 }
 
 impl Config {
-    /// Whether each size is within its range, so that a host of these sizes may be opened.
+    /// Whether each size is within its range, so that a host of these sizes can be opened.
     pub fn is_within(&self) -> bool
         ensures { IsTrue result ↔ IsConfig self.now }
     {
@@ -43,7 +43,7 @@ impl Config {
     }
 }
 
-/// Why no host was opened. Nothing is left of it.
+/// Why a host was not opened. Nothing is left of it.
 #[derive(Clone, Copy, PartialEq, Eq, Debug)]
 pub enum OpenFault {
     /// A size is not within its range.

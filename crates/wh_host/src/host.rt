@@ -1,4 +1,4 @@
-//! The lock round the state.
+//! The lock around the state.
 ghost use Rattle.std.specs.Prelude.{◌≡◌, ◌<◌, ◌+◌, ◌↔◌, IfOk, IfErr, IsErr, Err, vec_len};
 ghost use Rattle.std.specs.Prelude.{replicate};
 ghost use Rattle.std.specs.Sync.Mutex.{mutex_guard_value};
@@ -14,17 +14,18 @@ use std::sync::{Mutex, MutexGuard, Wait};
 use wh_ledger::{Seat, SeatsMissing};
 use wh_workflow::Workflow;
 
-/// A worker host that threads share: one lock round its state. Each thread has a seat of its own,
-/// and calls the methods of `HostState` on what `lock` lends.
+/// A worker host that threads share: one lock around its state. Each thread has a seat of its own,
+/// and calls the methods of `HostState` through the guard that `lock` returns.
 #[derive(Drop)]
 pub struct Host<W: Workflow, T: Ledger, C: Ledger, F: Ledger> {
     state: Mutex<HostState<W, T, C, F>>,
 }
 
 impl<W: Workflow, T: Ledger, C: Ledger, F: Ledger> Host<W, T, C, F> {
-    /// A host with all places free, an empty cache and empty books, and its seats, each of which
-    /// has counted nothing. The three blanks have as many parts as there are seats. `BadConfig`
-    /// where a size is not within its range, `OutOfMemory` where there was no memory.
+    /// Opens a host with all places free, an empty cache and empty books. Returns it with its
+    /// seats, which counted nothing yet. Each of the three blanks has as many parts as there are
+    /// seats. Returns `BadConfig` if a size is not within its range, and `OutOfMemory` if there was
+    /// no memory.
     pub fn open(
         alloc: Global,
         config: Config,
@@ -47,11 +48,12 @@ impl<W: Workflow, T: Ledger, C: Ledger, F: Ledger> Host<W, T, C, F> {
         ))
     }
 
-    /// Waits for the lock, and lends the state. Whatever was reserved, used, given back, finished
-    /// and evicted before, by whichever threads: each cached run's machines, versions and unsent
-    /// commands are those that replay of its held events from the first gives, and so is its state,
-    /// as `Run::state` says of every run; each slot is free, reserved for one poll, or held by one
-    /// named task; and what was taken is what was completed, what failed and what is in hand.
+    /// Waits for the lock, and returns a guard of the state. Whatever any threads reserved, used,
+    /// gave back, finished and evicted before, the state has these properties:
+    /// - Each cached run has the machines, versions and unsent commands that replay of its held
+    ///   events from the first gives. So is its state, as `Run::state` says of every run.
+    /// - Each slot is free, reserved for one poll, or held by one named task.
+    /// - Each task taken is completed, failed or being processed.
     pub fn lock<R: Wait>(&self, rt: &R) -> MutexGuard<'_, HostState<W, T, C, F>>
         ensures { IsHost W.program (mutex_guard_value result) }
     {
@@ -60,9 +62,9 @@ impl<W: Workflow, T: Ledger, C: Ledger, F: Ledger> Host<W, T, C, F> {
         guard
     }
 
-    /// Gathers what all seats have counted, which is what the books show: each task taken is
-    /// completed, failed or in hand. `SeatsMissing` where not all of them are brought: the host and
-    /// the seats come back.
+    /// Closes the host, and returns what all seats counted together, which is what the books show.
+    /// Each task taken is completed, failed or being processed. If a seat is missing, returns
+    /// `SeatsMissing`, the host and the seats.
     pub fn close(
         self,
         seats: Vec<Seat<T, C, F>>,

@@ -1,4 +1,4 @@
-//! A worker host: slots, a sticky cache and books as one state, and the lock round it that threads
+//! A worker host: slots, a sticky cache and books as one state, and the lock around it that threads
 //! share.
 #![tactic(auto)]
 

@@ -1,4 +1,4 @@
-//! What the calls of a host answer.
+//! Results of the calls of a host.
 
 ghost use Rattle.std.specs.Prelude.{Some};
 ghost use Rattle.wh_host.specs.Texts.{totals_text};
@@ -21,7 +21,7 @@ pub enum Outcome {
 /// What became of a run that was given back.
 #[derive(Drop)]
 pub enum Given<W: Workflow> {
-    /// It was put into the cache, with this answer of the cache.
+    /// It was passed to the cache, with this result.
     Put(Put<W>),
     /// Its task's place is marked for eviction, so it is not cached.
     Marked(Run<W>),
@@ -32,24 +32,24 @@ pub enum Given<W: Workflow> {
 /// What became of an evicted key.
 #[derive(Clone, Copy, PartialEq, Eq, Debug)]
 pub enum Evict {
-    /// Its run was cached, and is no longer.
+    /// Its run was cached, and is not any more.
     Evicted,
-    /// Its run was not cached, but a task of it is in hand: that run won't be cached.
+    /// Its run was not cached, but a task of the key is being processed: its run won't be cached.
     Marked,
-    /// Neither.
+    /// Its run was not cached, and no task of the key is being processed.
     NotCached,
 }
 
-/// What a host has counted since it was opened, and what it caches and holds now.
+/// What a host counted since it was opened, and what it caches and holds now.
 #[derive(Clone, Copy, PartialEq, Eq, Debug)]
 pub struct Counts {
-    /// Tasks taken in hand, of both kinds.
+    /// Tasks taken, of both kinds.
     pub taken: u64,
     /// Tasks completed.
     pub completed: u64,
     /// Tasks failed.
     pub failed: u64,
-    /// Tasks in hand now.
+    /// Tasks being processed now.
     pub in_hand: u64,
     /// Runs in the cache.
     pub cached: usize,
@@ -62,8 +62,8 @@ pub struct Counts {
     pub activity: SlotCount,
 }
 
-/// What all seats of a closed host have counted. What `taken` leaves over `completed` and `failed`
-/// was in hand.
+/// What all seats of a closed host counted. The tasks taken that were neither completed nor failed
+/// are `in_hand`.
 #[derive(Clone, Copy, PartialEq, Eq, Debug)]
 pub struct Totals {
     /// Tasks that used a slot.
@@ -76,7 +76,7 @@ pub struct Totals {
     pub in_hand: u64,
 }
 
-/// The four counts in words, as the reports of `serve` and `work` have them.
+/// Writes the four counts in words, as the reports of `serve` and `work` have them.
 impl fmt::Display for Totals {
     ghost output = { λ totals. Some (totals_text totals) };
 

@@ -1,4 +1,5 @@
-//! Slots, the run key and the mark of each workflow place, cached runs and books, as one machine.
+//! The state of a host as one machine: slots, the mark of each workflow place, cached runs and
+//! books.
 ghost use Rattle.std.specs.Prelude.{◌≡◌, ◌<◌, ◌+◌, ◌-◌, ◌^◌, ◌↔◌, Bool, false, None, Some, [], length};
 ghost use Rattle.std.specs.Prelude.{map};
 ghost use Rattle.std.specs.Prelude.{option_map, slice_get, replicate, IsTrue, IfOk, IfErr, OnOk};
@@ -30,7 +31,7 @@ use wh_slots::{
 };
 use wh_workflow::Workflow;
 
-/// The run of a held workflow place, and whether it is to be evicted.
+/// The mark of a held workflow place: the key of its run, and whether the run is to be evicted.
 #[derive(Drop, Debug)]
 pub struct Mark {
     /// The key of the run.
@@ -40,9 +41,9 @@ pub struct Mark {
 }
 
 /// The slots, the sticky cache and the books of a worker host. Contracts see them as one record,
-/// and each method as one step of a machine. A method that refuses hands back what was moved in and
-/// leaves the state as it was. The words are those of Temporal's documentation on workers: slots
-/// bound the tasks in hand ("worker performance"), and a run is kept in the cache between its tasks
+/// and each method as one step of a machine. A method that refuses returns what was moved in, and
+/// leaves the state as it was. As in Temporal's documentation on workers, slots limit how many
+/// tasks are processed at once ("worker performance"), and the cache keeps a run between its tasks
 /// ("sticky execution").
 #[derive(Drop)]
 pub struct HostState<W: Workflow, T: Ledger, C: Ledger, F: Ledger> {
@@ -64,9 +65,9 @@ impl<W: Workflow, T: Ledger, C: Ledger, F: Ledger> Model for HostState<W, T, C, 
 }
 
 impl<W: Workflow, T: Ledger, C: Ledger, F: Ledger> HostState<W, T, C, F> {
-    /// A state with all places free, an empty cache and empty books, and seats that have counted
-    /// nothing. Each blank has as many parts as there are seats. `BadConfig` where a size is not
-    /// within its range, `OutOfMemory` where there was no memory.
+    /// Opens a state with all places free, an empty cache and empty books. Returns it with its
+    /// seats, which counted nothing yet. Each blank has as many parts as there are seats. Returns
+    /// `BadConfig` if a size is not within its range, and `OutOfMemory` if there was no memory.
     pub fn open(
         alloc: Global,
         config: Config,
@@ -89,8 +90,8 @@ impl<W: Workflow, T: Ledger, C: Ledger, F: Ledger> HostState<W, T, C, F> {
         Ok((state, seats))
     }
 
-    /// A state beside empty books, with all places free and an empty cache. `OutOfMemory` where no
-    /// memory was left.
+    /// Opens a state over empty books, with all places free and an empty cache. Returns
+    /// `OutOfMemory` if there was no memory.
     fn beside(alloc: Global, config: Config, books: Books<T, C, F>) -> Result<Self, OutOfMemory>
         requires config { IsConfig config }
         requires books { books ≡ no_shares }
@@ -118,7 +119,7 @@ impl<W: Workflow, T: Ledger, C: Ledger, F: Ledger> HostState<W, T, C, F> {
         }
     }
 
-    /// From now on nothing is reserved. What is reserved or in hand stays so.
+    /// Ends reserving. Places that are reserved or held stay so.
     pub fn drain(&mut self)
         ensures { step self.old Drain self.new }
     {
@@ -126,8 +127,8 @@ impl<W: Workflow, T: Ledger, C: Ledger, F: Ledger> HostState<W, T, C, F> {
         self.activity.drain();
     }
 
-    /// The reserved place was not used and is free again. A permit under which nothing is reserved
-    /// comes back.
+    /// Frees a reserved place that was not used. Returns the permit if no place is reserved under
+    /// it.
     pub fn release(&mut self, permit: Permit) -> Result<(), (Permit, NotReserved)>
         ensures { step self.old (Release permit result) self.new }
     {
@@ -137,9 +138,9 @@ impl<W: Workflow, T: Ledger, C: Ledger, F: Ledger> HostState<W, T, C, F> {
         }
     }
 
-    /// Takes a workflow task in hand: the reserved place is held under the task's name, the cached
-    /// run of the key is handed out, if there is one, and the task is counted as taken. The faults
-    /// are tried as `NotReserved`, `TaskInHand`.
+    /// Starts processing a workflow task: the task holds the reserved place under its name and is
+    /// counted as taken. The cached run of the key, if there is one, leaves the cache and is
+    /// returned. The faults are tried in the order `NotReserved`, `TaskInHand`.
     pub fn use_workflow(
         &mut self,
         permit: Permit,
@@ -166,8 +167,8 @@ impl<W: Workflow, T: Ledger, C: Ledger, F: Ledger> HostState<W, T, C, F> {
         Ok((held, run))
     }
 
-    /// Takes an activity task in hand: the reserved place is held under the task's name, and the
-    /// task is counted as taken. The faults are tried as `NotReserved`, `TaskInHand`.
+    /// Starts processing an activity task: the task holds the reserved place under its name and is
+    /// counted as taken. The faults are tried in the order `NotReserved`, `TaskInHand`.
     pub fn use_activity(
         &mut self,
         permit: Permit,
@@ -182,9 +183,9 @@ impl<W: Workflow, T: Ledger, C: Ledger, F: Ledger> HostState<W, T, C, F> {
         Ok(held)
     }
 
-    /// Puts the run of a workflow task in hand into the cache. It comes back as `NotHeld` where no
-    /// workflow place is held under the number with the run's key, and else as `Marked` where that
-    /// place is marked for eviction.
+    /// Puts the run of a workflow task that is being processed into the cache. Returns the run as
+    /// `NotHeld` if no workflow place is held under the number with the run's key, and else as
+    /// `Marked` if that place is marked for eviction.
     pub fn give_run(&mut self, held: &Held, run: Run<W>) -> Given<W>
         ensures { step self.old (GiveRun held.now run (give_reply_of result)) self.new }
     {
@@ -198,13 +199,13 @@ impl<W: Workflow, T: Ledger, C: Ledger, F: Ledger> HostState<W, T, C, F> {
             return Given::Marked(run);
         }
         let put = put_back(&mut self.cache, run);
-        // The cache answers here for the runs that it holds.
+        // Called for the proof: its contract says that the cached runs are replayed.
         self.cache.len();
         Given::Put(put)
     }
 
     /// Drops the run of the key from the cache, and marks each held place of the key, so that the
-    /// run in hand there won't be cached.
+    /// run of its task won't be cached.
     pub fn evict(&mut self, key: &RunKey) -> Evict
         ensures { step self.old (EvictRun key.now result) self.new }
     {
@@ -218,8 +219,8 @@ impl<W: Workflow, T: Ledger, C: Ledger, F: Ledger> HostState<W, T, C, F> {
         Evict::NotCached
     }
 
-    /// The task is done: its place is free, and its outcome is counted. What is not held comes
-    /// back.
+    /// Finishes a task: frees its place, and counts its outcome. Returns the right if no place is
+    /// held under it.
     pub fn finish(
         &mut self,
         held: Held,
@@ -247,8 +248,8 @@ impl<W: Workflow, T: Ledger, C: Ledger, F: Ledger> HostState<W, T, C, F> {
         }
     }
 
-    /// What is counted, cached and held. Nothing changes, and no count is below what the seat has
-    /// counted.
+    /// Returns what is counted, cached and held. Nothing changes. None of the three books is below
+    /// the seat's share of it.
     pub fn counts(&mut self, seat: &mut Seat<T, C, F>) -> Counts
         ensures step { step self.old (ReadCounts result) self.new }
         ensures within { IsWithin seat.old (books_of result) }
@@ -269,22 +270,22 @@ impl<W: Workflow, T: Ledger, C: Ledger, F: Ledger> HostState<W, T, C, F> {
         }
     }
 
-    /// The history of the run that is cached for the key, if one is. Nothing changes: no slot is
-    /// used, nothing is counted, and the order of use stays.
+    /// Returns the history of the run that is cached for the key, if one is. Nothing changes: no
+    /// slot is used, nothing is counted, and the order of use stays.
     pub fn cached(&self, key: &RunKey) -> Option<&ReplayedHistory<W>>
         ensures { option_map (λ history. history.now) result ≡ lookup (same_key key.now) self.now.cache.runs }
     {
         self.cache.peek(key)
     }
 
-    /// Does nothing. Its contract says what holds of every state.
+    /// Does nothing. Its contract says what holds for every state.
     pub(crate) fn invariant(&self)
         ensures { IsHost W.program self.now }
     {
         let _books = &self.books;
     }
 
-    /// How many tasks are in hand, of both kinds.
+    /// Counts the tasks that are being processed, of both kinds.
     fn in_hand(&self) -> u64
         ensures in_hand { result ≡ in_hand self.now }
         ensures host { IsHost W.program self.now }
@@ -293,8 +294,9 @@ impl<W: Workflow, T: Ledger, C: Ledger, F: Ledger> HostState<W, T, C, F> {
         totals.taken - totals.completed - totals.failed
     }
 
-    /// Gathers what all seats have counted: each task taken is completed, failed or in hand.
-    /// `SeatsMissing` where not all of them are brought: the state and the seats come back.
+    /// Closes the state, and returns what all seats counted together. Each task taken is completed,
+    /// failed or being processed. If a seat is missing, returns `SeatsMissing`, the state and the
+    /// seats.
     pub fn close(
         self,
         seats: Vec<Seat<T, C, F>>,
@@ -336,7 +338,7 @@ impl<W: Workflow, T: Ledger, C: Ledger, F: Ledger> HostState<W, T, C, F> {
     }
 }
 
-/// The slots of both kinds, with all places free.
+/// Opens the slots of both kinds, with all places free.
 fn open_slots(alloc: Global, config: Config) -> Result<(Slots, Slots), OutOfMemory>
     requires { IsConfig config }
     ensures workflow { IfOk result (λ slots.
@@ -349,7 +351,7 @@ fn open_slots(alloc: Global, config: Config) -> Result<(Slots, Slots), OutOfMemo
     Ok((workflow, activity))
 }
 
-/// The workflow places, none of which has a mark, and an empty cache.
+/// Returns a list with no mark for any of the workflow places, and an empty cache.
 fn open_runs<W: Workflow>(
     alloc: Global,
     config: Config,
@@ -363,7 +365,7 @@ fn open_runs<W: Workflow>(
     Ok((marks, cache))
 }
 
-/// As many places, none of which has a mark.
+/// Returns a list for `count` places, with no mark for any of them.
 fn no_marks(alloc: Global, count: usize) -> Result<Vec<Option<Mark>>, OutOfMemory>
     ensures { IfOk result (λ marks. marks.items ≡ replicate count None) }
 {
@@ -375,7 +377,7 @@ fn no_marks(alloc: Global, count: usize) -> Result<Vec<Option<Mark>>, OutOfMemor
     Ok(marks)
 }
 
-/// Takes the run of the key out of the cache, for the task that is now in hand.
+/// Takes the run of the key out of the cache, for the task that is now processed.
 fn hand_out<W: Workflow>(cache: &mut Sticky<W>, key: &RunKey) -> Option<Run<W>>
     ensures run { result ≡ option_map held_of (lookup_entry (same_key key.now) cache.old.runs) }
     ensures runs { cache.new ≡ record cache.old { runs = remove_entry (same_key key.now) cache.old.runs } }
@@ -383,7 +385,7 @@ fn hand_out<W: Workflow>(cache: &mut Sticky<W>, key: &RunKey) -> Option<Run<W>>
     cache.take(key)
 }
 
-/// Puts a run into the cache, from which its task took it.
+/// Puts a run back into the cache.
 fn put_back<W: Workflow>(cache: &mut Sticky<W>, run: Run<W>) -> Put<W>
     ensures { Puts cache.old run cache.new (put_reply_of result) }
 {
@@ -407,7 +409,7 @@ fn count_outcome<T: Ledger, C: Ledger, F: Ledger>(
     }
 }
 
-/// Whether the place is marked for eviction, where it has this key.
+/// Returns whether the place is marked for eviction, or `None` if it doesn't have this key.
 fn mark_of(marks: &[Option<Mark>], at: usize, key: &RunKey) -> Option<bool>
     requires { at < length marks.now }
     ensures { MatchOption result
@@ -420,7 +422,7 @@ fn mark_of(marks: &[Option<Mark>], at: usize, key: &RunKey) -> Option<bool>
     }
 }
 
-/// Marks the place, where it has the key, and says whether it has.
+/// Marks the place for eviction if it has the key, and returns whether it has.
 fn mark_place(mark: &mut Option<Mark>, key: &RunKey) -> bool
     ensures mark { mark.new ≡ evicted_for key.now mark.old }
     ensures found { result ≡ has_key key.now mark.old }
@@ -434,7 +436,7 @@ fn mark_place(mark: &mut Option<Mark>, key: &RunKey) -> bool
     }
 }
 
-/// Marks every place that has the key, and says whether there is one.
+/// Marks every place that has the key for eviction, and returns whether there is one.
 fn mark_places(marks: &mut [Option<Mark>], key: &RunKey) -> bool
     ensures marks { marks.new ≡ map (evicted_for key.now) marks.old }
     ensures found { result ≡ has_mark key.now marks.old }

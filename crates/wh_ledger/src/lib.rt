@@ -1,11 +1,10 @@
-//! Books of the tasks that were taken, completed and failed, and the seats whose shares they add
-//! up.
+//! Books that count tasks taken, completed and failed, and the seats whose shares add up to them.
 //!
-//! Each worker counts on a seat of its own, and the books stand beside what the workers share. An
-//! addition raises one book and the same share of one seat. Shares cannot be copied or made up, so
-//! once all seats are gathered their sums are the books. The three ledgers are of
-//! `std::sync::ledger`: `T` of tasks taken, `C` of tasks completed and `F` of tasks failed, each
-//! cut into as many parts as there are seats.
+//! Each worker counts on a seat of its own. The workers share the books. An addition raises one
+//! book and the same share of one seat. Shares can't be copied or made up, so the sums of all
+//! gathered seats are the books. The three ledgers are of `std::sync::ledger`: `T` counts tasks
+//! taken, `C` tasks completed and `F` tasks failed. Each is cut into as many parts as there are
+//! seats.
 #![tactic(auto)]
 
 ghost use Rattle.std.specs.Prelude.{◌≡◌, ◌+◌, ◌-◌, ◌<◌, ◌↔◌, ◌^◌, IfOk, IfErr, IsErr, vec_len};
@@ -17,7 +16,7 @@ use std::marker::Model;
 use std::sync::ledger::{Blank, Book, Ledger, Share};
 use wh_events::OutOfMemory;
 
-/// Numbers of tasks that were taken, completed and failed.
+/// How many tasks were taken, completed and failed.
 #[derive(Clone, Copy, PartialEq, Eq, Debug)]
 pub struct Shares {
     /// Tasks that used a slot.
@@ -37,7 +36,7 @@ impl Shares {
     };
 }
 
-/// What all seats together have counted. Contracts see the three totals.
+/// What all seats together counted. Contracts see the three totals.
 #[derive(Drop)]
 pub struct Books<T: Ledger, C: Ledger, F: Ledger> {
     seats: usize,
@@ -65,8 +64,8 @@ impl<T: Ledger, C: Ledger, F: Ledger> Model for Books<T, C, F> {
         × (b.seats ≡ F.parts) };
 }
 
-/// The seat of one worker. Contracts see what it has counted. A seat that is dropped is missing
-/// when the books are to be gathered.
+/// The seat of one worker. Contracts see what it counted. If a seat is dropped, the books can't be
+/// gathered any more.
 #[derive(Drop)]
 pub struct Seat<T: Ledger, C: Ledger, F: Ledger> {
     shares: Shares,
@@ -93,7 +92,7 @@ impl<T: Ledger, C: Ledger, F: Ledger> Model for Seat<T, C, F> {
 }
 
 impl<T: Ledger, C: Ledger, F: Ledger> Seat<T, C, F> {
-    /// What this seat has counted.
+    /// Returns what this seat counted.
     pub fn share(&self) -> Shares
         ensures { result ≡ self.now }
     {
@@ -101,14 +100,14 @@ impl<T: Ledger, C: Ledger, F: Ledger> Seat<T, C, F> {
     }
 }
 
-/// A seat that was opened is not among those brought to be gathered.
+/// The error of a call that got fewer seats to gather than were opened.
 #[derive(Clone, Copy, PartialEq, Eq, Debug)]
 pub struct SeatsMissing;
 
 impl<T: Ledger, C: Ledger, F: Ledger> Books<T, C, F> {
-    /// Empty books and as many empty seats, over three new ledgers that are cut into as many parts.
-    /// `OutOfMemory` where there was no memory for the seats; the ledgers are spent then. No later
-    /// call takes memory.
+    /// Opens empty books and `seats` empty seats, over three new ledgers that are cut into as many
+    /// parts. Returns `OutOfMemory` if there was no memory for the seats. The ledgers are spent
+    /// then. No later call allocates.
     pub fn open(
         alloc: Global,
         seats: usize,
@@ -147,14 +146,14 @@ impl<T: Ledger, C: Ledger, F: Ledger> Books<T, C, F> {
         ))
     }
 
-    /// What all seats have counted.
+    /// Returns what all seats together counted.
     pub fn totals(&self) -> Shares
         ensures { result ≡ self.now }
     {
         self.totals
     }
 
-    /// Compares a seat with the books: no share is above its book. Nothing changes.
+    /// Compares a seat with the books: none of its shares is above its book. Nothing changes.
     pub fn audit(&mut self, seat: &mut Seat<T, C, F>)
         ensures books { self.new ≡ self.old }
         ensures seat { seat.new ≡ seat.old }
@@ -177,7 +176,7 @@ impl<T: Ledger, C: Ledger, F: Ledger> Books<T, C, F> {
         failed.audit(my_failed);
     }
 
-    /// One more task was taken: the book and the seat's share of it rise by one.
+    /// Counts one more task as taken: the book and the seat's share of it rise by one.
     pub fn add_taken(&mut self, seat: &mut Seat<T, C, F>)
         requires { self.old.taken < 2 ^ 64 - 1 }
         ensures books { self.new ≡ record self.old { taken = self.old.taken + 1 } }
@@ -195,7 +194,7 @@ impl<T: Ledger, C: Ledger, F: Ledger> Books<T, C, F> {
         shares.taken += 1;
     }
 
-    /// One more task was completed: the book and the seat's share of it rise by one.
+    /// Counts one more task as completed: the book and the seat's share of it rise by one.
     pub fn add_completed(&mut self, seat: &mut Seat<T, C, F>)
         requires { self.old.completed < 2 ^ 64 - 1 }
         ensures books { self.new ≡ record self.old { completed = self.old.completed + 1 } }
@@ -217,7 +216,7 @@ impl<T: Ledger, C: Ledger, F: Ledger> Books<T, C, F> {
         shares.completed += 1;
     }
 
-    /// One more task failed: the book and the seat's share of it rise by one.
+    /// Counts one more task as failed: the book and the seat's share of it rise by one.
     pub fn add_failed(&mut self, seat: &mut Seat<T, C, F>)
         requires { self.old.failed < 2 ^ 64 - 1 }
         ensures books { self.new ≡ record self.old { failed = self.old.failed + 1 } }
@@ -235,8 +234,8 @@ impl<T: Ledger, C: Ledger, F: Ledger> Books<T, C, F> {
         shares.failed += 1;
     }
 
-    /// The sums of the shares of all seats, which are the books. `SeatsMissing` where there are
-    /// fewer seats than were opened; books and seats come back as they were.
+    /// Adds up the shares of all seats, and returns the sums, which are the books. If there are
+    /// fewer seats than were opened, returns `SeatsMissing`, and the books and seats as they were.
     pub fn gather(
         self,
         seats: Vec<Seat<T, C, F>>,
@@ -265,7 +264,7 @@ impl<T: Ledger, C: Ledger, F: Ledger> Books<T, C, F> {
     }
 }
 
-/// The shares of all seats, of which there is one at least, as one share of each ledger.
+/// Merges the shares of all seats, at least one, into one share of each ledger.
 fn merge_all<T: Ledger, C: Ledger, F: Ledger>(
     mut seats: Vec<Seat<T, C, F>>,
 ) -> (Share<T>, Share<C>, Share<F>)

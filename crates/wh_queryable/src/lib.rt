@@ -1,4 +1,4 @@
-//! What workflows answer to queries: questions on their state, which change nothing.
+//! Query handlers of workflows. A query asks about the state of a workflow, and changes nothing.
 #![tactic(auto)]
 
 mod no_queries;

@@ -1,4 +1,4 @@
-//! Workflows that know no query.
+//! Workflows without query handlers.
 
 use crate::queryable::{QueryResult, Queryable};
 use crate::results::unknown_query;
@@ -7,7 +7,7 @@ use std::marker::PhantomData;
 use wh_events::{OutOfMemory, Payload};
 use wh_workflow::{Command, Job, Meter, Workflow};
 
-/// A workflow as it is, which knows no query: each query fails as one of an unknown type.
+/// The workflow `W` without query handlers: each query fails as one of an unknown type.
 pub struct NoQueries<W> {
     workflow: PhantomData<W>,
 }

@@ -1,4 +1,4 @@
-//! Queries of two workflows as one.
+//! Query handlers of two workflows as one.
 
 use crate::queryable::{QueryResult, Queryable};
 use std::alloc::Global;

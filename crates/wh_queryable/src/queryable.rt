@@ -1,4 +1,4 @@
-//! Queries, and what a workflow answers to them.
+//! Queries, their results, and workflows that answer them.
 ghost use Rattle.std.specs.Prelude.{◌≡◌, IfOk, false};
 ghost use Rattle.wh_queryable.specs.Queries.{is_built_in, result_in};
 
@@ -16,17 +16,17 @@ pub struct Query {
     pub input: Items<Payload>,
 }
 
-/// What a query gives.
+/// The result of a query.
 #[derive(Debug, Drop)]
 pub enum QueryResult {
-    /// These payloads.
+    /// The query was answered with these payloads.
     Answered(Items<Payload>),
-    /// No payloads, and why.
+    /// The query failed for this reason.
     Failed(Text),
 }
 
 impl QueryResult {
-    /// An equal result. `OutOfMemory` where an allocation was refused.
+    /// Returns an equal result, or `OutOfMemory` if an allocation was refused.
     pub fn try_copy(&self) -> Result<Self, OutOfMemory>
         ensures { IfOk result (λ copy. copy ≡ self.now) }
     {
@@ -37,16 +37,15 @@ impl QueryResult {
     }
 }
 
-/// A workflow that answers queries. One that knows none is `NoQueries` of it.
+/// A workflow with query handlers. `NoQueries` makes one of a workflow that has none.
 pub trait Queryable: Workflow {
     ghost use Rattle.wh_queryable.specs.Queries.{Queries, is_built_in};
 
-    /// What its query handlers give, as a function of the state, the query type and the input.
+    /// The results of its query handlers, as a function of the state, the query type and the input.
     ghost queries: { Queries Self.State };
 
-    /// The query handlers: what a query gives in a state. A type that begins with two underscores
-    /// never comes here; `query_state` takes any. `OutOfMemory` where there was no memory for the
-    /// result.
+    /// Runs the query handler of a type in a state. The type doesn't begin with two underscores;
+    /// `query_state` takes any type. Returns `OutOfMemory` if there was no memory for the result.
     fn query(
         alloc: Global,
         state: &Self::State,
@@ -57,15 +56,17 @@ pub trait Queryable: Workflow {
         ensures { IfOk result (λ given. given ≡ queries state.now query_type.now input.now) };
 }
 
-/// Whether the query type is one that Temporal's SDKs keep for themselves, as `__stack_trace`.
+/// Whether the query type is one that Temporal's SDKs reserve, as `__stack_trace`: it begins with
+/// two underscores.
 pub fn is_built_in(query_type: &str) -> bool
     ensures { result ≡ is_built_in query_type.now }
 {
     query_type.starts_with("__")
 }
 
-/// What a query gives in a state: what the query handlers of the workflow give, but `Failed` for
-/// each type that begins with two underscores. `OutOfMemory` where there was no memory for it.
+/// Returns the result of a query in a state: that of the workflow's query handlers, but `Failed`
+/// for each type that begins with two underscores. Returns `OutOfMemory` if there was no memory for
+/// it.
 pub fn query_state<W: Queryable>(
     alloc: Global,
     state: &W::State,

@@ -6,7 +6,8 @@ use crate::queryable::QueryResult;
 use std::alloc::Global;
 use wh_events::{Items, OutOfMemory, Payload, Text};
 
-/// The result of a query of a type that is built into Temporal's SDKs.
+/// Returns the result of a query of a type that is built into Temporal's SDKs, or `OutOfMemory` if
+/// there was no memory for its text.
 pub(crate) fn built_in_query(alloc: Global, query_type: &str) -> Result<QueryResult, OutOfMemory>
     ensures { IfOk result (λ given. given ≡ built_in_query query_type.now) }
 {
@@ -14,8 +15,8 @@ pub(crate) fn built_in_query(alloc: Global, query_type: &str) -> Result<QueryRes
     Ok(QueryResult::Failed(Text::new(text)))
 }
 
-/// The result of a query of an unknown type, with the names of the known ones. `OutOfMemory` where
-/// there was no memory for its text.
+/// Returns the result of a query of an unknown type, with the names of the known ones, or
+/// `OutOfMemory` if there was no memory for its text.
 pub fn unknown_query(
     alloc: Global,
     query_type: &str,
@@ -27,8 +28,9 @@ pub fn unknown_query(
     Ok(QueryResult::Failed(Text::new(text)))
 }
 
-/// The result that is one payload: a JSON text (RFC 8259), under the encoding `json/plain`. Whether
-/// it is JSON is not looked at. `OutOfMemory` where there was no memory for the payload.
+/// Returns the result that is one payload: the text, which should be JSON (RFC 8259), under the
+/// encoding `json/plain`. The text is not checked. Returns `OutOfMemory` if there was no memory for
+/// the payload.
 pub fn json_result(alloc: Global, json: String) -> Result<QueryResult, OutOfMemory>
     ensures { IfOk result (λ given. given ≡ json_result (string_bytes json)) }
 {

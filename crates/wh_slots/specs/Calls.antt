@@ -4,7 +4,7 @@ use Rattle.wh_slots.specs.declared.SlotKind.{SlotKind}
 use Rattle.wh_slots.specs.declared.TaskName.{TaskName}
 use Rattle.wh_slots.specs.Table.{Table, IsTable, Reserves, Uses, Frees, Releases}
 
--- an accepted call, with the right that it took or gave
+-- an accepted call, with the right that it took or returned
 pub data Call : Type 0 where
   reserve : SlotKind × ℕ → Call
   use_slot : SlotKind × ℕ → TaskName → SlotKind × ℕ → Call
@@ -12,7 +12,7 @@ pub data Call : Type 0 where
   release : SlotKind × ℕ → Call
   drain : Call
 
--- the call takes the old table to the new one
+-- the call leads from the old table to the new one
 abbrev pub Does : Table → Call → Table → Type 0
 Does old (reserve permit) new = Reserves old new permit
 Does old (use_slot permit name held) new = Uses old new permit name held
@@ -20,7 +20,7 @@ Does old (free held) new = Frees old new held
 Does old (release permit) new = Releases old new permit
 Does old drain new = new ≡ record old { draining = true }
 
--- the calls, one after the other, take the first table to the last
+-- the calls, one after the other, lead from the first table to the last
 abbrev pub DoesAll : Table → List Call → Table → Type 0
 DoesAll first [] last = last ≡ first
 DoesAll first (call ∷ calls) last = (next : Table) × Does first call next × DoesAll next calls last
@@ -34,7 +34,7 @@ numbers_given (free held ∷ calls) = numbers_given calls
 numbers_given (release permit ∷ calls) = numbers_given calls
 numbers_given (drain ∷ calls) = numbers_given calls
 
--- calls take a table to a table
+-- what held of a table (`IsTable`) still holds after any accepted calls
 abbrev pub CallsKeepTables : Type 0
 CallsKeepTables = (first last : Table) (calls : List Call) → IsTable first → DoesAll first calls last → IsTable last
 
@@ -43,8 +43,7 @@ abbrev pub CallsKeepPlaces : Type 0
 CallsKeepPlaces =
     (first last : Table) (calls : List Call) → DoesAll first calls last → length last.places ≡ length first.places
 
--- numbers are given out one after the other, from the first table's next one upwards, so none is
--- given out again
+-- the calls give out numbers one after the other, from the first table's next one upwards, so none is given out twice
 abbrev pub NumbersRunUpwards : Type 0
 NumbersRunUpwards =
     (first last : Table) (calls : List Call) (i number : ℕ) → DoesAll first calls last

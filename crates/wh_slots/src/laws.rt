@@ -1,5 +1,4 @@
-//! What holds after every list of accepted calls, each law as the contract of a function that does
-//! nothing.
+//! Laws of lists of accepted calls. Each law is the contract of a function that does nothing.
 ghost use Rattle.wh_slots.specs.Calls.{CallsKeepTables, CallsKeepPlaces, NumbersRunUpwards};
 
 /// After every list of accepted calls numbers of different places differ, names of different places
@@ -9,7 +8,7 @@ pub fn calls_keep_tables()
     ensures places { CallsKeepPlaces }
 {}
 
-/// Over every list of accepted calls numbers are given out one after the other, and none twice.
+/// Every list of accepted calls gives out numbers one after the other, and none of them twice.
 pub fn numbers_run_upwards()
     ensures { NumbersRunUpwards }
 {}

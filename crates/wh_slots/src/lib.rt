@@ -1,9 +1,9 @@
 //! Task slots of one kind. Each place is free, reserved for one poll, or held by one named task.
 //!
-//! A worker has a fixed number of task slots, each the room for one task at a time (Temporal
+//! A worker has a fixed number of task slots, each with room for one task at a time (Temporal
 //! documentation, "Worker performance", task slots). A place is reserved before the source is
-//! polled, it is held by the task that the poll brings, and it is freed when the task is finished,
-//! or released where the poll brings none.
+//! polled. The task that the poll brings holds it until the task is finished. If the poll brings no
+//! task, the place is released.
 #![tactic(auto)]
 
 ghost use Rattle.std.specs.Prelude.{◌≡◌, ◌+◌, ◌<◌, ◌≤◌, true, false, replicate, position, IfOk};
@@ -28,7 +28,7 @@ pub enum SlotKind {
     Activity,
 }
 
-/// The name under which a source knows a task. Any number is a name.
+/// The name under which a source knows a task, as Temporal's task token. Any number is a name.
 #[derive(Clone, Copy, PartialEq, Eq, Debug)]
 pub struct TaskName(pub u128);
 
@@ -44,18 +44,18 @@ pub enum Place {
     InHand(u64, TaskName),
 }
 
-/// Why no place was reserved. Where several reasons apply, it is the first of them in this order.
+/// Why no place was reserved. If several reasons apply, it is the first of them in this order.
 #[derive(Clone, Copy, PartialEq, Eq, Debug)]
 pub enum ReserveFault {
-    /// The slots drain: nothing is reserved any more.
+    /// The slots drain: no place is reserved any more.
     Draining,
-    /// The last number was given out.
+    /// The last number was given out already.
     NumbersSpent,
     /// No place is free.
     NoSlot,
 }
 
-/// Why a permit was not used. Where both reasons apply, it is the first.
+/// Why a permit was not used. If both reasons apply, it is the first.
 #[derive(Clone, Copy, PartialEq, Eq, Debug)]
 pub enum UseFault {
     /// The permit is of the other kind, or no place is reserved under its number.
@@ -64,15 +64,15 @@ pub enum UseFault {
     TaskInHand,
 }
 
-/// The permit is of the other kind, or no place is reserved under its number.
+/// The error of a permit of the other kind, or of one under whose number no place is reserved.
 #[derive(Clone, Copy, PartialEq, Eq, Debug)]
 pub struct NotReserved;
 
-/// The right is of the other kind, or no place is held under its number.
+/// The error of a right of the other kind, or of one under whose number no place is held.
 #[derive(Clone, Copy, PartialEq, Eq, Debug)]
 pub struct NotHeld;
 
-/// How many places are free, reserved and held. Together they are all places of the kind.
+/// How many places are free, reserved and held. The three numbers add up to all places of the kind.
 #[derive(Clone, Copy, PartialEq, Eq, Debug)]
 pub struct SlotCount {
     /// Places that nobody has.
@@ -83,14 +83,14 @@ pub struct SlotCount {
     pub held: usize,
 }
 
-/// The last number that is given out: 2^63 - 1.
+/// The last number that a call gives out: 2^63 - 1.
 pub const LAST_NUMBER: u64 = 0x7fff_ffff_ffff_ffff;
 
 /// The most places of one kind.
 pub const MOST_SLOTS: usize = 1000;
 
-/// The right to use or to release one reserved place, once. It cannot be copied.
-/// Contracts see its kind and its number. A permit that is dropped leaves its place reserved.
+/// The right to use or to release one reserved place, once. It can't be copied. If it is dropped,
+/// its place stays reserved. Contracts see its kind and its number.
 #[derive(Debug, Drop)]
 pub struct Permit {
     kind: SlotKind,
@@ -107,14 +107,14 @@ impl Model for Permit {
 }
 
 impl Permit {
-    /// What the place is for.
+    /// Returns what the place is for.
     pub fn kind(&self) -> SlotKind
         ensures { result ≡ self.now.0 }
     {
         self.kind
     }
 
-    /// The number under which the place is reserved.
+    /// Returns the number under which the place is reserved.
     pub fn number(&self) -> u64
         ensures { result ≡ self.now.1 }
     {
@@ -122,8 +122,8 @@ impl Permit {
     }
 }
 
-/// The right to free one held place, once. It cannot be copied.
-/// Contracts see its kind and its number. One that is dropped leaves its place held.
+/// The right to free one held place, once. It can't be copied. If it is dropped, its place stays
+/// held. Contracts see its kind and its number.
 #[derive(Debug, Drop)]
 pub struct Held {
     kind: SlotKind,
@@ -140,14 +140,14 @@ impl Model for Held {
 }
 
 impl Held {
-    /// What the place is for.
+    /// Returns what the place is for.
     pub fn kind(&self) -> SlotKind
         ensures { result ≡ self.now.0 }
     {
         self.kind
     }
 
-    /// The number under which the place is held: that of the permit that was used.
+    /// Returns the number under which the place is held: that of the permit that was used.
     pub fn number(&self) -> u64
         ensures { result ≡ self.now.1 }
     {
@@ -155,9 +155,8 @@ impl Held {
     }
 }
 
-/// The places of one kind, 1 to 1,000 of them. Contracts see the table of them, in which numbers of
-/// different places differ, names of different places differ, and each number is below the next
-/// one.
+/// The places of one kind, 1 to 1,000 of them. Contracts see the table of the places: different
+/// places have different numbers and different names, and each number is below the next one.
 #[derive(Drop)]
 pub struct Slots {
     kind: SlotKind,
@@ -177,8 +176,8 @@ impl Model for Slots {
 }
 
 impl Slots {
-    /// As many free places, 1 to 1,000, and 1 for the first number.
-    /// `OutOfMemory` where there was no memory for them; no later call takes memory.
+    /// Opens `places` free places, 1 to 1,000, with 1 for the first number. Returns `OutOfMemory`
+    /// if there was no memory for them. No later call allocates.
     pub fn open(alloc: Global, kind: SlotKind, places: usize) -> Result<Slots, OutOfMemory>
         requires { (0 < places) × (places ≤ MOST_SLOTS) }
         ensures { IfOk result (λ slots. slots ≡ table kind (replicate places Free) 1 false) }
@@ -186,8 +185,8 @@ impl Slots {
         Slots::starting_at(alloc, kind, places, 1)
     }
 
-    /// As many free places, 1 to 1,000, and `next` for the first number, 1 to 2^63 - 1.
-    /// `OutOfMemory` where there was no memory for them; no later call takes memory.
+    /// Opens `places` free places, 1 to 1,000, with `next` for the first number, 1 to 2^63 - 1.
+    /// Returns `OutOfMemory` if there was no memory for them. No later call allocates.
     pub fn starting_at(
         alloc: Global,
         kind: SlotKind,
@@ -207,9 +206,8 @@ impl Slots {
         })
     }
 
-    /// Reserves a free place under the next number, which is never given out again. Which free
-    /// place it is, is left open. Errors are tried in the order of [`ReserveFault`] and change
-    /// nothing.
+    /// Reserves a free place under the next number, which is never given out again. It can be any
+    /// of the free places. Errors are tried in the order of [`ReserveFault`] and change nothing.
     pub fn reserve(&mut self) -> Result<Permit, ReserveFault>
         ensures reserved { IfOk result (Reserves self.old self.new) }
         ensures refused { IfErr result (IsReserveFault self.old) }
@@ -233,9 +231,8 @@ impl Slots {
         })
     }
 
-    /// The place that is reserved under the permit is held by the task from now on, under the same
-    /// number. Errors are tried in the order of [`UseFault`]; they change nothing and hand the
-    /// permit back.
+    /// Lets the task hold the place that is reserved under the permit, under the same number.
+    /// Errors are tried in the order of [`UseFault`]. They change nothing and return the permit.
     pub fn use_slot(&mut self, permit: Permit, name: TaskName) -> Result<Held, (Permit, UseFault)>
         ensures held { IfOk result (Uses self.old self.new permit name) }
         ensures refused { IfErr result (λ refused. IsUseFault self.old permit name refused.1) }
@@ -259,8 +256,8 @@ impl Slots {
         })
     }
 
-    /// The held place is free again. `NotHeld` where it is not one of these; nothing changes then,
-    /// and the right comes back.
+    /// Frees the held place. Returns `NotHeld` and the right if no place is held under it. Nothing
+    /// changes then.
     pub fn free(&mut self, held: Held) -> Result<(), (Held, NotHeld)>
         ensures freed { OnOk result (Frees self.old self.new held) }
         ensures refused { OnErr result (¬ IsHeld self.old held) }
@@ -277,8 +274,8 @@ impl Slots {
         Ok(())
     }
 
-    /// The reserved place is free again, and was not used.
-    /// `NotReserved` where it is not one of these; nothing changes then, and the permit comes back.
+    /// Frees a reserved place that was not used. Returns `NotReserved` and the permit if no place
+    /// is reserved under it. Nothing changes then.
     pub fn release(&mut self, permit: Permit) -> Result<(), (Permit, NotReserved)>
         ensures released { OnOk result (Releases self.old self.new permit) }
         ensures refused { OnErr result (¬ IsReserved self.old permit) }
@@ -295,17 +292,16 @@ impl Slots {
         Ok(())
     }
 
-    /// From now on nothing is reserved. What is reserved or held may still be used, released and
-    /// freed.
+    /// Ends reserving. Places that are reserved or held can still be used, released and freed.
     pub fn drain(&mut self)
         ensures { self.new ≡ record self.old { draining = true } }
     {
         self.draining = true;
     }
 
-    /// At which place, counted from 0, the right is held, or `None` where it is not one of these. A
-    /// place stays where it is while it is held, so what is kept of held places can stand in a list
-    /// beside the slots.
+    /// Returns the index of the place that is held under the right, counted from 0, or `None` if
+    /// there is none. A place keeps its index while it is held, so a list beside the slots can keep
+    /// something for each held place.
     pub fn place_of(&self, held: &Held) -> Option<usize>
         ensures found { IfSome result (IsPlaceOf self.now held.now) }
         ensures missing { IfNone result (¬ IsHeld self.now held.now) }
@@ -316,7 +312,7 @@ impl Slots {
         find_held(self.places.as_slice(), held.number)
     }
 
-    /// How many places are free, reserved and held.
+    /// Counts the free, reserved and held places.
     pub fn count(&self) -> SlotCount
         ensures count { result ≡ count_of self.now }
         ensures table { IsTable self.now }
@@ -337,14 +333,14 @@ impl Slots {
     }
 }
 
-/// The first free place.
+/// Returns the index of the first free place.
 fn find_free(places: &[Place]) -> Option<usize>
     ensures { result ≡ position is_free places.now }
 {
     places.iter().position(|place| matches!(place, Place::Free))
 }
 
-/// The place that is reserved under the number.
+/// Returns the index of the place that is reserved under the number.
 fn find_reserved(places: &[Place], number: u64) -> Option<usize>
     ensures { result ≡ position (is_reserved number) places.now }
 {
@@ -354,7 +350,7 @@ fn find_reserved(places: &[Place], number: u64) -> Option<usize>
     })
 }
 
-/// The place that is held under the number.
+/// Returns the index of the place that is held under the number.
 fn find_held(places: &[Place], number: u64) -> Option<usize>
     ensures { result ≡ position (is_held number) places.now }
 {
@@ -364,7 +360,7 @@ fn find_held(places: &[Place], number: u64) -> Option<usize>
     })
 }
 
-/// The place that is held by the task.
+/// Returns the index of the place that the task holds.
 fn find_named(places: &[Place], name: TaskName) -> Option<usize>
     ensures { result ≡ position (is_named name) places.now }
 {

@@ -1,4 +1,4 @@
--- Of the texts of faults only names have characters that JSON escapes.
+-- In the texts of faults only names have characters that JSON escapes.
 use Rattle.std.proofs.Common.{◌≡◌, ◌∙◌, ℕ, zero, suc, ◌+◌, ◌/◌, ◌%◌, ◌<◌, Bool, true, false, cond, ◌&&◌, List, [], ◌∷◌, ◌++◌, Option, Some, None, refl, sym, ap, append-nil, arith}
 use Rattle.std.specs.Prelude.{◌==◌, nat_lt, nat_le, codes, decimal, encode_utf8}
 use Rattle.std.specs.List.{flat_map}

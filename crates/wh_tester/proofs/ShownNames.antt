@@ -1,4 +1,4 @@
--- A name is shown once each of its first 255 characters is.
+-- A name is shown when each of its first 255 characters is.
 use Rattle.std.proofs.Common.{◌≡◌, ◌∙◌, ℕ, List, [], ◌∷◌, sym, take, map, refl, ap}
 use Rattle.std.specs.List.{flat_map}
 use Rattle.std.specs.Str.{chars}

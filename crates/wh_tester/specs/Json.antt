@@ -11,11 +11,11 @@ use Rattle.wh_tester.specs.declared.line.Verdict.{Verdict}
 use Rattle.wh_tester.specs.declared.line.Verdict.TheVariants as verdicts
 use Rattle.wh_tester.specs.declared.line.Line.{Line}
 
--- a character of a string: `"` and `\` stand after a `\`
+-- a character in a string of JSON: `"` and `\` come after a `\`
 abbrev pub escaped_char : ℕ → List ℕ
 escaped_char c = if c == 34 || c == 92 then 92 ∷ c ∷ [] else c ∷ []
 
--- what stands between the quotes of a string
+-- a text between the quotes of a string of JSON
 abbrev pub escaped : List ℕ → List ℕ
 escaped text = flat_map escaped_char text
 
@@ -40,7 +40,7 @@ abbrev pub event_members : Option ℕ → List (List ℕ)
 event_members None = []
 event_members (Some at) = plain_member (codes "event") (decimal at) ∷ []
 
--- the event that a difference in the task is about, or else the task
+-- the event that a difference is about, or else the task, which is at `at`
 abbrev pub mismatch_members : ℕ → Mismatch → List (List ℕ)
 mismatch_members at (Different event) = plain_member (codes "event") (decimal event) ∷ []
 mismatch_members at (CommandMissing event) = plain_member (codes "event") (decimal event) ∷ []
@@ -53,7 +53,7 @@ subject_members (faults.Place at fault) = plain_member (codes "event") (decimal 
 subject_members (faults.Workflow at fault) = plain_member (codes "task") (decimal at) ∷ []
 subject_members (faults.Mismatch at mismatch) = mismatch_members at mismatch
 
--- the members of a verdict; a fault is said as in the report in words
+-- the members of a verdict, with the text that a fault has in the report in words
 abbrev pub verdict_members : Verdict → List (List ℕ)
 verdict_members (verdicts.Good c) =
     text_member (codes "verdict") (codes "ok")
@@ -68,19 +68,19 @@ verdict_members (verdicts.Faulty fault) =
     ∷ (subject_members fault ++ text_member (codes "fault") (replay_fault_text fault) ∷ [])
 verdict_members verdicts.OutOfMemory = text_member (codes "verdict") (codes "out of memory") ∷ []
 
--- the line of a file without others
+-- the whole line of a file
 abbrev pub json_line : Line → List ℕ
 json_line line = object (text_member (codes "file") (shown line.name)) (verdict_members line.verdict)
 
--- the line of a file without its end, on which members may follow
+-- the line of a file without its end, so that members can follow
 abbrev pub open_line : Line → List ℕ
 open_line line = codes "{" ++ (text_member (codes "file") (shown line.name) ++ following (verdict_members line.verdict))
 
--- the line of so many files and good ones
+-- the line of the totals, with the number of files and of good ones
 abbrev pub totals_object : (files good : ℕ) → List ℕ
 totals_object files good =
     object (plain_member (codes "files") (decimal files)) (plain_member (codes "ok") (decimal good) ∷ [])
 
--- the line of totals
+-- the line of the totals of these lines
 abbrev pub json_totals : List Line → List ℕ
 json_totals lines = totals_object (length lines) (good_count lines)

@@ -1,4 +1,4 @@
--- What the lines of the report as JSON read as.
+-- How the lines of the report as JSON read back.
 use Rattle.std.specs.Prelude.{◌≡◌, ◌<◌, ◌^◌, ◌++◌, ℕ, List, codes, decimal, length, Option, Some, None, IfSome}
 use Rattle.json.specs.Json.{Json, Members, number, string, object, boolean, no_members, member, document}
 use Rattle.wh_workflow.specs.declared.fault.Mismatch.TheVariants.{Different, CommandMissing, CommandExtra}
@@ -49,11 +49,11 @@ totals_json lines =
     (member (codes "files") (number (decimal (length lines)))
     (member (codes "ok") (number (decimal (good_count lines))) no_members))
 
--- a number that 64 bits hold
+-- the number fits in 64 bits
 abbrev pub IsSmall : ℕ → Type 0
 IsSmall n = n < 2 ^ 64
 
--- the number that a fault of replay is about is small
+-- the number that a fault of replay is about fits in 64 bits
 abbrev pub HasSmallSubject : Fault → Type 0
 HasSmallSubject faults.NotATask = Unit {0}
 HasSmallSubject (faults.Place at fault) = IsSmall at
@@ -62,14 +62,14 @@ HasSmallSubject (faults.Mismatch at (Different event)) = IsSmall event
 HasSmallSubject (faults.Mismatch at (CommandMissing event)) = IsSmall event
 HasSmallSubject (faults.Mismatch at (CommandExtra index)) = IsSmall at
 
--- the numbers of a verdict are small, as those of the program are
+-- the numbers of a verdict fit in 64 bits, as those that the program holds do
 abbrev pub HasSmallNumbers : Verdict → Type 0
 HasSmallNumbers (verdicts.Good c) = IsSmall c.tasks
 HasSmallNumbers (verdicts.Unreadable fault) = IfSome (event_of fault) IsSmall
 HasSmallNumbers (verdicts.Faulty fault) = HasSmallSubject fault
 HasSmallNumbers verdicts.OutOfMemory = Unit {0}
 
--- a line is a text with a line feed after it, and the text reads as the value
+-- the line is a text and a line feed, and the text reads as the value
 pub record ReadsAs (line : List ℕ) (value : Json) : Type 0 where
   pub text : List ℕ
   pub ends : line ≡ text ++ codes "\n"
@@ -79,7 +79,7 @@ pub record ReadsAs (line : List ℕ) (value : Json) : Type 0 where
 abbrev pub LinesReadBack : Type 0
 LinesReadBack = (line : Line) → HasSmallNumbers line.verdict → ReadsAs (json_line line) (line_json line)
 
--- the line of the totals reads as theirs
+-- the line of the totals reads as their object
 abbrev pub TotalsReadBack : Type 0
 TotalsReadBack =
     (lines : List Line) → IsSmall (length lines) → IsSmall (good_count lines)

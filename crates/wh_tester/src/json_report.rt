@@ -1,4 +1,4 @@
-//! The lines of the report of a run as JSON.
+//! The lines of a report as JSON.
 
 ghost use Rattle.std.specs.Prelude.{◌≡◌, ◌∷◌, ◌++◌, [], Some, OnOk};
 ghost use Rattle.std.specs.Fmt.{DisplaysOnOk};
@@ -16,7 +16,7 @@ use wh_json::ReadFault;
 use wh_replay::Fault;
 use wh_workflow::Mismatch;
 
-/// What stands before a character in a string of JSON: a `\` before `"` and `\`.
+/// Returns what comes before a character in a string of JSON: a `\` before `"` and `\`.
 fn escape_of(c: char) -> &'static str
     ensures { result.now ++ c ∷ [] ≡ escaped_char c }
 {
@@ -26,7 +26,7 @@ fn escape_of(c: char) -> &'static str
     }
 }
 
-/// Writes a name as the report in words shows it, with what JSON escapes in a string.
+/// Writes a name as the report in words shows it, escaped for a string of JSON.
 #[tactic(auto, unfolding(crate::specs::Report::shown))]
 fn write_escaped<W: fmt::Write>(name: &str, f: &mut fmt::Formatter<W>) -> fmt::Result
     ensures { DisplaysOnOk W.write_str_gives f.old result (Some (escaped (shown name.now))) f.new }
@@ -137,8 +137,8 @@ impl fmt::Display for VerdictMembers<'_> {
     }
 }
 
-/// Writes the object of a file without its end: members may follow, each after a comma, and then
-/// `}` and a line feed. After an error some of it may have been written.
+/// Writes the object of a file without its end. The caller can write further members, each after a
+/// comma, and then `}` and a line feed. After an error some of it may have been written.
 pub fn write_open_json_line<W: Write>(line: &Line, writer: &mut W) -> io::Result<()>
     ensures { OnOk result (Appends (W.contents writer.old) (W.contents writer.new) (open_line line.now)) }
 {
@@ -147,7 +147,7 @@ pub fn write_open_json_line<W: Write>(line: &Line, writer: &mut W) -> io::Result
     write!(writer, "{{\"file\":\"{name}\"{members}")
 }
 
-/// Writes the object of a file (RFC 8259), on a line, with no spaces between its parts and one line
+/// Writes the object of a file (RFC 8259) on one line, with no spaces between its parts, and a line
 /// feed. Its members, in this order:
 /// - `file`, the name, shown as in the report in words;
 /// - `verdict`, one of `ok`, `unreadable`, `fault` and `out of memory`;
@@ -164,8 +164,8 @@ pub fn write_json_line<W: Write>(line: &Line, writer: &mut W) -> io::Result<()>
     write!(writer, "{{\"file\":\"{name}\"{members}}}\n")
 }
 
-/// Writes the object of so many files and good ones, on a line. After an error some of the line may
-/// have been written.
+/// Writes the object of the totals on one line: the number of files, and how many of them are good.
+/// After an error some of the line may have been written.
 pub fn write_json_totals<W: Write>(files: usize, good: usize, writer: &mut W) -> io::Result<()>
     ensures { OnOk result (Appends (W.contents writer.old) (W.contents writer.new) (totals_object files good)) }
 {

@@ -1,4 +1,4 @@
-//! What the lines of the report as JSON read as.
+//! How the lines of the report as JSON read back.
 ghost use Rattle.wh_tester.specs.JsonReading.{LinesReadBack, TotalsReadBack};
 
 /// The line of a file, without its line feed, is a text of JSON (RFC 8259), and it reads as the
@@ -10,7 +10,8 @@ pub fn lines_read_back()
     ensures { LinesReadBack }
 {}
 
-/// So is the line of the totals, and it reads as their object.
+/// The line of the totals, without its line feed, is a text of JSON, and it reads as the object of
+/// the totals.
 #[tactic(auto, using(crate::proofs::JsonReading::totals_read_back))]
 pub fn totals_read_back()
     ensures { TotalsReadBack }

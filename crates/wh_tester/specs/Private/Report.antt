@@ -1,4 +1,4 @@
--- Of Report: what only contracts of private functions cite.
+-- The part of Report that only contracts of private functions cite.
 use Rattle.std.specs.Prelude.{ℕ, List, [], ◌++◌, codes, decimal, Option, Some, None}
 use Rattle.wh_json.specs.declared.fault.ReadFault.{ReadFault}
 use Rattle.wh_json.specs.declared.fault.ReadFault.TheVariants as faults
@@ -24,7 +24,7 @@ name_of (faults.UnsupportedEvent at name) = name
 name_of (faults.UnsupportedMarker at name) = name
 name_of _ = []
 
--- the event in words, where there is one
+-- the event in words, if there is one
 abbrev pub event_text : Option ℕ → List ℕ
 event_text None = []
 event_text (Some at) = codes "event " ++ decimal at
