@@ -1,4 +1,4 @@
-//! A source of which one call fails.
+//! A source whose call of a chosen number fails.
 ghost use Rattle.std.specs.Prelude.{◌≡◌, ◌+◌, ◌-◌, ◌++◌, ◌∷◌, [], cond, eqb, IfOk, OnOk, OnErr};
 ghost use Rattle.wh_tasks.specs.Source.{CachesAll, CachesNoMore, Delivery, FailsOnly, IfTask, KeepsSource};
 ghost use Rattle.wh_tasks.specs.declared.source.RunUse.{RunUse};
@@ -13,13 +13,14 @@ use wh_tasks::{
     Acceptance, ActivityAnswer, ActivityTask, Polled, RunUse, SourceFault, TaskSource, WorkflowTask,
 };
 
-/// Another source, of which one call fails and does not reach it. Every other call is the other
-/// source's, and so is what polls and `whole` may give and of which tasks the runs may be cached.
+/// Wraps another source and makes one call fail. That call does not reach the other source. Every
+/// other call is passed on. Polls and `whole` may return what those of the other source may, and
+/// the same tasks' runs may be cached.
 ///
-/// A failing call answers `Source`, and the count of failures rises with it. The answer of such a
-/// call was never sent to the other source, which says by that what becomes of the run. Contracts
-/// see the other source and which of the calls to come fails, counted from 1: 0 where none does any
-/// more.
+/// The failing call returns `Source`, and the count of failures rises. An answer in that call is
+/// not sent to the other source, whose `without_answer` then decides whether the run may be cached.
+/// Contracts see the other source and which of the calls to come fails, counted from 1, or 0 if
+/// none fails any more.
 #[derive(Drop)]
 pub struct FaultySource<S> {
     inner: S,
@@ -35,8 +36,8 @@ impl<S> Model for FaultySource<S> {
 }
 
 impl<S> FaultySource<S> {
-    /// The source whose call number `fail_at` fails. Polls, questions for a history and answers are
-    /// counted together, from 1. With 0 no call fails. It takes no memory.
+    /// Returns a source whose call number `fail_at` fails. Polls, fetched histories and answers are
+    /// counted together, from 1. If `fail_at` is 0, no call fails. Allocates nothing.
     pub fn new(inner: S, fail_at: u64) -> FaultySource<S>
         ensures { result ≡ (inner, fail_at) }
     {
@@ -47,7 +48,7 @@ impl<S> FaultySource<S> {
     }
 }
 
-/// Counts a call, and says whether it is the one that fails.
+/// Counts a call, and returns whether it is the one that fails.
 fn is_due(left: &mut u64) -> bool
     ensures due { result ≡ eqb left.old 1 }
     ensures left { left.new ≡ left.old - 1 }
@@ -110,7 +111,7 @@ impl<S: TaskSource> TaskSource for FaultySource<S> {
         ensures counted { Counts self.old result self.new }
 
         // What every source ensures, of this one.
-        ensures told { IfOk result (λ history. S.fetches self.old.0 key.now up_to history.items) }
+        ensures fetched { IfOk result (λ history. S.fetches self.old.0 key.now up_to history.items) }
         ensures runs { CachesNoMore S.caches self.old.0 self.new.0 }
         ensures answers { S.answers self.new.0 ≡ S.answers self.old.0 }
         ensures failures { FailsOnly result (failures_of S.failures self.old) (failures_of S.failures self.new) }

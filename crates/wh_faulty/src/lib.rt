@@ -1,4 +1,4 @@
-//! A source of tasks that fails in a chosen call, for tests of what hosts do then.
+//! A source of tasks that fails in a chosen call, to test what hosts do then.
 #![tactic(auto)]
 
 mod faulty_source;

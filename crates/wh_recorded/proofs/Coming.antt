@@ -1,4 +1,4 @@
--- A call leads on from what a source comes from.
+-- After a call a source still comes from all the sources that it came from.
 use Rattle.std.proofs.Common.{◌≡◌, List, [], ◌∷◌, ◌++◌, refl, ap, subst}
 use Rattle.std.specs.Prelude.{Result, Ok, Err, OnOk, OnErr}
 use Rattle.wh_slots.specs.declared.TaskName.{TaskName}

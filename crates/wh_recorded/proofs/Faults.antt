@@ -1,4 +1,4 @@
--- What one more answer says of a name, and the tasks that failed.
+-- How one more answer changes the fault under a name, and the tasks that failed.
 use Rattle.std.proofs.Common.{◌≡◌, ◌∙◌, ℕ, suc, ◌+◌, ◌||◌, Bool, true, false, List, [], ◌∷◌, ◌++◌, Option, Some, None, refl, sym, ap, append-nil, arith}
 use Rattle.std.specs.Prelude.{Result, Ok, Err, OnOk, if◌then◌else◌}
 use Rattle.std.specs.Option.{option_or}

@@ -1,4 +1,4 @@
--- How many tasks were given, and which tasks of each history they are.
+-- How many tasks the polls returned, and which tasks of each history they are.
 use Rattle.std.proofs.Common.{◌≡◌, ◌∙◌, ℕ, zero, suc, ◌+◌, ◌-◌, ◌<◌, ◌≤◌, ◌⊎◌, inl, inr, List, [], ◌∷◌, true, false, cond, Some, take, drop, length, slice_get, refl, ap, length-append, length-take, arith}
 use Rattle.std.specs.Prelude.{min, ltb, sum_by}
 use Rattle.std.proofs.lemmas.Bool.{lt-ltb, le-ltb, cases_lt}

@@ -1,4 +1,4 @@
--- What polls give over every list of calls of a new source.
+-- What polls return in every list of calls of a new source.
 use Rattle.std.proofs.Common.{◌≡◌, ◌∙◌, ℕ, ◌++◌, List, ◌∷◌, take, length, slice_get, refl, ap, sym, length-append, arith}
 use Rattle.std.proofs.lemmas.List.{append-nil, take_all}
 use Rattle.std.proofs.lemmas.Option.{slice_get_past}

@@ -1,4 +1,4 @@
--- Where numbers tell histories and their events apart, names tell tasks apart.
+-- Tasks of histories with different indices and rising event numbers have different names.
 use Rattle.std.proofs.Common.{◌≡◌, ◌∙◌, ℕ, ◌+◌, ◌-◌, ◌<◌, ◌≤◌, ◌⊎◌, inl, inr, List, Some, None, take, drop, length, get_or, slice_get, ap, sym, length-take, length-drop, arith}
 use Rattle.std.proofs.lemmas.Bool.{cases_lt}
 use Rattle.std.proofs.lemmas.Option.{same_Some, slice_get_cases}

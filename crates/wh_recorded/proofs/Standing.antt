@@ -1,4 +1,4 @@
--- Where tasks stand in the order of the rounds.
+-- The places of tasks in the order of the rounds.
 use Rattle.std.proofs.Common.{◌≡◌, ◌∙◌, ℕ, zero, suc, ◌+◌, ◌-◌, ◌<◌, ◌≤◌, ◌⊎◌, inl, inr, ◌++◌, List, [], ◌∷◌, Bool, true, false, cond, Some, take, length, slice_get, refl, ap, sym, length-append, arith}
 use Rattle.std.specs.Prelude.{min, ltb, sum_by, count_by}
 use Rattle.std.proofs.lemmas.Bool.{ltb-true, ltb-false, lt-ltb, cases_lt}

@@ -1,4 +1,4 @@
--- A source over scripted histories: which tasks it gives, what it tells, and how its tasks were
+-- A source over recorded histories: the tasks that it delivers, the histories that it fetches, and how its tasks were
 -- answered.
 use Rattle.std.specs.Prelude.{◌≡◌, ℕ, zero, suc, ◌+◌, ◌-◌, ◌*◌, ◌<◌, ◌&&◌, min, Bool, true, false, List, [], ◌∷◌, ◌++◌, length, drop, take, get_or, slice_get, Option, Some, None, if◌then◌else◌, eqb, leb, ltb, bytes_eq, codes, String, string_bytes, Vec, sum_by, count_by}
 use Rattle.std.specs.List.{list_any, flat_map}
@@ -19,34 +19,34 @@ use Rattle.wh_tasks.specs.Numbers.{last_number}
 use Rattle.wh_tasks.specs.Source.{Delivery, Workflow, Activity}
 use Rattle.wh_recorded.specs.declared.failed_task.FailedTask.{FailedTask}
 
--- a scripted history: the index of its file, its name, and its events
+-- a recorded history: the index of its file, its name, and its events
 pub record Scripted : Type 0 where
   pub index : ℕ
   pub name : List ℕ
   pub events : List Event
 
--- a source as contracts see it: its histories, the round of its next task and the place of the
--- history that comes next in it, both counted from 0, and the answers that it was sent
+-- a source as contracts see it: its histories, the round of its next task and the place of the history that comes next
+-- in it, both counted from 0, and the answers that it was sent
 pub record Stage : Type 0 where
   pub histories : List Scripted
   pub round : ℕ
   pub next : ℕ
   pub answers : List (TaskName × Sent)
 
--- a source that gave no task yet, and was sent no answer
+-- a source that has delivered no task yet, and was sent no answer
 abbrev pub opening_stage : List Scripted → Stage
 opening_stage histories = record { histories = histories; round = 0; next = 0; answers = [] }
 
--- one more answer was sent, under the name of its task
+-- the source after one more answer, under the name of its task
 abbrev pub with_answer : Stage → TaskName → Sent → Stage
 with_answer stage name sent = record stage { answers = stage.answers ++ (name, sent) ∷ [] }
 
--- a history as it is given
+-- the history that is made of a file's index, its name and its events
 abbrev pub scripted : (ℕ × String Global × Vec Event Global) → Scripted
 scripted given = record { index = given.0; name = string_bytes given.1; events = given.2.items }
 
--- the ends of the tasks of a list of events, where so many events stand before it: how many events
--- stand before and up to each event that starts a task
+-- the ends of the tasks of a list of events that comes after `before` events: for each event that starts a task, how
+-- many events there are up to it
 abbrev pub ends_after : ℕ → List Event → List ℕ
 ends_after before [] = []
 ends_after before (event ∷ rest) =
@@ -60,19 +60,16 @@ ends_of events = ends_after 0 events
 abbrev pub tasks_in : Scripted → ℕ
 tasks_in history = length (ends_of history.events)
 
--- how many events stand before the n-th task, counted from 0: as many as up to the end of the task
--- before it
+-- how many events come before those of the n-th task, counted from 0: those up to the end of the task before it
 abbrev pub begin_at : List ℕ → ℕ → ℕ
 begin_at ends n = if eqb n 0 then 0 else get_or ends (n - 1) 0
 
--- the events of the n-th task, counted from 0: those up to its end, without those of the tasks
--- before it
+-- the events of the n-th task, counted from 0: those up to its end, without those of the tasks before it
 abbrev pub events_of : List Event → ℕ → List Event
 events_of events n =
     take (get_or (ends_of events) n 0 - begin_at (ends_of events) n) (drop (begin_at (ends_of events) n) events)
 
--- the token of a task: the file's index times 2^64 plus the number of the event that starts the
--- task
+-- the name of a task: the file's index times 2^64 plus the number of the event that starts the task
 abbrev pub token : ℕ → ℕ → TaskName
 token index number = record { 0 = index * 0x1_0000_0000_0000_0000 + number }
 
@@ -88,7 +85,7 @@ task_of history n = record {
   events = events_of history.events n;
 }
 
--- the task is one of a history's
+-- the task is one of the tasks of the histories
 abbrev pub IsTaskOf : List Scripted → WorkflowTask → Type 0
 IsTaskOf histories task =
     (place n : ℕ)
@@ -97,14 +94,14 @@ IsTaskOf histories task =
     × (n < tasks_in history)
     × (task ≡ task_of history n)
 
--- the place of the first history that has an n-th task, counted from 0, where so many histories
--- stand before it, if there is one
+-- the place of the first history that has an n-th task, counted from 0, if there is one, in a list that comes after
+-- `before` histories
 abbrev pub first_with : ℕ → ℕ → List Scripted → Option ℕ
 first_with before n [] = None
 first_with before n (history ∷ rest) = if ltb n (tasks_in history) then Some before else first_with (before + 1) n rest
 
--- the round and the history of the next task, by the first history that is left in this round and
--- the first of the next round
+-- the round and the history of the next task, by the first history that is left in this round and the first of the next
+-- round
 abbrev pub upcoming_by : ℕ → Option ℕ → Option ℕ → Option (ℕ × ℕ)
 upcoming_by round (Some place) later = Some (round, place)
 upcoming_by round None (Some place) = Some (round + 1, place)
@@ -117,8 +114,7 @@ upcoming stage =
     (first_with stage.next stage.round (drop stage.next stage.histories))
     (first_with 0 (stage.round + 1) stage.histories)
 
--- a poll gives the next task and goes on after it, and where no task is left the source is closed
--- and stays as it is
+-- a poll returns the next task and goes on after it; if no task is left, it returns `Closed` and changes nothing
 abbrev pub Polls : Stage → Polled WorkflowTask → Stage → Type 0
 Polls old (Task task) new =
     (round place : ℕ)
@@ -130,7 +126,7 @@ Polls old (Task task) new =
 Polls old Nothing new = ⊥
 Polls old Closed new = (upcoming old ≡ None) × (new ≡ old)
 
--- the source gives the tasks of its histories, and no activity task
+-- the source delivers the tasks of its histories, and no activity task
 abbrev pub Gives : List Scripted → Delivery → Type 0
 Gives histories (Workflow task) = IsTaskOf histories task
 Gives histories (Activity task) = ⊥
@@ -140,8 +136,7 @@ abbrev pub events_up_to : ℕ → List Event → List Event
 events_up_to number [] = []
 events_up_to number (event ∷ rest) = if leb event.number number then event ∷ events_up_to number rest else []
 
--- the first history of the name with its place, where so many histories stand before it, if there
--- is one
+-- the first history of the name with its place, if there is one, in a list that comes after `before` histories
 abbrev pub first_named : ℕ → List ℕ → List Scripted → Option (ℕ × Scripted)
 first_named before name [] = None
 first_named before name (history ∷ rest) =
@@ -152,13 +147,13 @@ abbrev pub events_in : ℕ → Option (ℕ × Scripted) → List Event
 events_in up_to None = []
 events_in up_to (Some found) = events_up_to up_to found.1.events
 
--- what the source tells of a key: the events of the first history of its name up to the number,
--- none where the run is not `recorded`
+-- the history that the source fetches for a key: the events of the first history of its name up to the number, and none
+-- if the run is not `recorded`
 abbrev pub told : List Scripted → RunKey → ℕ → List Event
 told histories key up_to =
     if bytes_eq key.run_id (codes "recorded") then events_in up_to (first_named 0 key.workflow_id histories) else []
 
--- the source tells this of a key and a number
+-- the source fetches this history for a key and a number
 abbrev pub Recounts : List Scripted → RunKey → ℕ → List Event → Type 0
 Recounts histories key up_to history = history ≡ told histories key up_to
 
@@ -171,20 +166,20 @@ abbrev pub is_complete : Sent → Bool
 is_complete (OfWorkflow (Complete commands)) = true
 is_complete _ = false
 
--- what was sent under a name completes the task of this name
+-- the answer, with the name that it was sent under, completes the task of this name
 abbrev pub completes : TaskName → TaskName × Sent → Bool
 completes name sent = is_complete sent.1 && eqb sent.0.0 name.0
 
--- one of the answers completes the task of this name
+-- an answer completes the task of this name
 abbrev pub is_completed : List (TaskName × Sent) → TaskName → Bool
 is_completed answers name = list_any (completes name) answers
 
--- the fault that a workflow task is answered with, if it is
+-- the fault in an answer to a workflow task, if it is one
 abbrev pub fault_in : Sent → Option Fault
 fault_in (OfWorkflow (Fail fault)) = Some fault
 fault_in _ = None
 
--- the fault that was sent under this name, if what was sent is one
+-- the fault in an answer, if it was sent under this name
 abbrev pub fault_by : TaskName → TaskName × Sent → Option Fault
 fault_by name sent = if eqb sent.0.0 name.0 then fault_in sent.1 else None
 
@@ -198,7 +193,7 @@ abbrev pub first_tasks : Scripted → ℕ → List WorkflowTask
 first_tasks history zero = []
 first_tasks history (suc n) = first_tasks history n ++ task_of history n ∷ []
 
--- how many of the tasks are completed by one of the answers
+-- how many of the tasks an answer completes
 abbrev pub completed_of : List (TaskName × Sent) → List WorkflowTask → ℕ
 completed_of answers tasks = count_by (λ task. is_completed answers task.name) tasks
 
@@ -210,19 +205,18 @@ tally_by stage (Some found) =
     let completed = completed_of stage.answers (first_tasks found.1 polled) in
     Some (polled, completed, polled - completed)
 
--- how many tasks of the first history of the name were polled, how many of these are completed, and
--- how many are not
+-- how many tasks of the first history of the name were polled, how many of these are completed, and how many are not
 abbrev pub tally_of : Stage → List ℕ → Option (ℕ × ℕ × ℕ)
 tally_of stage name = tally_by stage (first_named 0 name stage.histories)
 
--- a task as one that failed, unless one of the answers completes it
+-- the task as a failed one, or nothing if an answer completes it
 abbrev pub failed_as : List (TaskName × Sent) → WorkflowTask → List FailedTask
 failed_as answers task =
     if is_completed answers task.name
     then []
     else record { at = last_number task.events; fault = fault_under answers task.name } ∷ []
 
--- those of the tasks that none of the answers completes
+-- those of the tasks that no answer completes
 abbrev pub failed_of : List (TaskName × Sent) → List WorkflowTask → List FailedTask
 failed_of answers tasks = flat_map (failed_as answers) tasks
 
@@ -235,7 +229,7 @@ failed_by stage (Some found) = failed_of stage.answers (first_tasks found.1 (pol
 abbrev pub failed_in : Stage → List ℕ → List FailedTask
 failed_in stage name = failed_by stage (first_named 0 name stage.histories)
 
--- the last task of a history has a record: an event that completes a task stands after the one that starts it
+-- the last task of a history has a record: an event that completes a task comes after the one that starts it
 abbrev pub is_last_recorded : Scripted → Bool
 is_last_recorded history =
     ltb 0 (tasks_in history)

@@ -7,6 +7,6 @@ use wh_replay::Fault;
 pub struct FailedTask {
     /// The number of the event that starts it.
     pub at: u64,
-    /// The fault that it was answered with. `None` where it was not answered.
+    /// The fault that it was answered with, or `None` if it was not answered.
     pub fault: Option<Fault>,
 }

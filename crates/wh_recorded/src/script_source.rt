@@ -1,4 +1,4 @@
-//! A source that gives the tasks of recorded histories.
+//! A source that delivers the tasks of recorded histories.
 ghost use Rattle.std.specs.Prelude.{◌≡◌, ◌<◌, ◌≤◌, ◌+◌, ◌-◌, get_or, length, map, take, drop};
 ghost use Rattle.std.specs.Prelude.{◌++◌, ◌∷◌, [], option_map, IfOk, IfErr, IfSome, OnOk, OnErr};
 ghost use Rattle.wh_recorded.specs.Rounds.{scripted, opening_stage, with_answer, ends_of, tasks_in};
@@ -29,7 +29,7 @@ use wh_tasks::{
 /// The run id of each history's key.
 const RUN_ID: &str = "recorded";
 
-/// How many tokens the tasks of one file have.
+/// How many names there are for the tasks of one file.
 const TOKENS: u128 = 0x1_0000_0000_0000_0000;
 
 /// A history and the ends of its tasks.
@@ -52,7 +52,7 @@ impl Model for ScriptedHistory {
     ghost invariant = { λ h. h.ends.items ≡ ends_of h.events.items };
 }
 
-/// How many events stand up to each event that starts a workflow task.
+/// Returns, for each event that starts a workflow task, the number of events up to it.
 fn find_ends(alloc: Global, events: &[Event]) -> Result<Vec<usize>, OutOfMemory>
     ensures { IfOk result (λ ends. ends.items ≡ ends_of events.now) }
 {
@@ -65,7 +65,7 @@ fn find_ends(alloc: Global, events: &[Event]) -> Result<Vec<usize>, OutOfMemory>
     Ok(ends)
 }
 
-/// Adds a copy of the event after the copies.
+/// Adds a copy of the event to the copies.
 fn push_copy(copies: &mut Vec<Event>, event: &Event) -> Result<(), OutOfMemory>
     ensures { OnOk result (copies.new.items ≡ copies.old.items ++ event.now ∷ []) }
 {
@@ -73,7 +73,7 @@ fn push_copy(copies: &mut Vec<Event>, event: &Event) -> Result<(), OutOfMemory>
     Ok(())
 }
 
-/// Copies of the events after the first `begin` of them, up to `end`.
+/// Copies the events after the first `begin` of them, up to `end`.
 fn copy_between(
     alloc: Global,
     events: &[Event],
@@ -90,7 +90,7 @@ fn copy_between(
     Ok(copies)
 }
 
-/// The number of the last of the events after the first `begin` of them, up to `end`.
+/// Returns the number of the last of the events after the first `begin` of them, up to `end`.
 fn last_between(events: &[Event], begin: usize, end: usize) -> u64
     requires begins { begin ≤ end }
     requires ends { end ≤ length events.now }
@@ -99,7 +99,7 @@ fn last_between(events: &[Event], begin: usize, end: usize) -> u64
     last_number(&events[begin..end])
 }
 
-/// Copies of the events up to a number.
+/// Copies the events up to a number.
 fn copy_up_to(alloc: Global, events: &[Event], up_to: u64) -> Result<Vec<Event>, OutOfMemory>
     ensures { IfOk result (λ copies. copies.items ≡ events_up_to up_to events.now) }
 {
@@ -113,7 +113,7 @@ fn copy_up_to(alloc: Global, events: &[Event], up_to: u64) -> Result<Vec<Event>,
     Ok(copies)
 }
 
-/// The key of a history of this name.
+/// Returns the key of a history of this name.
 fn key_of(alloc: Global, name: &str) -> Result<RunKey, OutOfMemory>
     ensures { IfOk result (λ key. key ≡ key_of name.now) }
 {
@@ -124,6 +124,7 @@ fn key_of(alloc: Global, name: &str) -> Result<RunKey, OutOfMemory>
 }
 
 impl ScriptedHistory {
+    /// Returns the history, with the ends of its tasks.
     fn new(
         alloc: Global,
         index: u64,
@@ -141,14 +142,14 @@ impl ScriptedHistory {
         })
     }
 
-    /// How many tasks it has.
+    /// Counts its tasks.
     fn tasks(&self) -> usize
         ensures { result ≡ tasks_in self.now }
     {
         self.ends.len()
     }
 
-    /// How many events stand before a task, counted from 0.
+    /// Counts the events before the events of task `n`, counted from 0.
     fn begin(&self, n: usize) -> usize
         requires { n < tasks_in self.now }
         ensures { result ≡ begin_at (ends_of self.now.events) n }
@@ -156,7 +157,7 @@ impl ScriptedHistory {
         if n == 0 { 0 } else { self.ends[n - 1] }
     }
 
-    /// The number of the event that starts a task, counted from 0.
+    /// Returns the number of the event that starts task `n`, counted from 0.
     fn number_of(&self, n: usize) -> u64
         requires { n < tasks_in self.now }
         ensures { result ≡ last_number (events_of self.now.events n) }
@@ -164,7 +165,7 @@ impl ScriptedHistory {
         last_between(self.events.as_slice(), self.begin(n), self.ends[n])
     }
 
-    /// The name of a task, counted from 0.
+    /// Returns the name of task `n`, counted from 0.
     fn name_of(&self, n: usize) -> TaskName
         requires { n < tasks_in self.now }
         ensures { result ≡ (task_of self.now n).name }
@@ -172,7 +173,7 @@ impl ScriptedHistory {
         TaskName(u128::from(self.index) * TOKENS + u128::from(self.number_of(n)))
     }
 
-    /// A task, counted from 0.
+    /// Returns task `n`, counted from 0.
     fn task(&self, alloc: Global, n: usize) -> Result<WorkflowTask, OutOfMemory>
         requires { n < tasks_in self.now }
         ensures { IfOk result (λ task. task ≡ task_of self.now n) }
@@ -185,7 +186,7 @@ impl ScriptedHistory {
         })
     }
 
-    /// How many of its first `n` tasks one of the answers completes.
+    /// Counts those of its first `n` tasks that an answer completes.
     fn count_completed(&self, n: usize, answers: &SentAnswers) -> u64
         requires { n ≤ tasks_in self.now }
         ensures { result ≡ completed_of answers.now (first_tasks self.now n) }
@@ -199,7 +200,7 @@ impl ScriptedHistory {
         completed
     }
 
-    /// Those of its first `n` tasks that none of the answers completes.
+    /// Lists those of its first `n` tasks that no answer completes.
     fn failed(
         &self,
         alloc: Global,
@@ -222,7 +223,7 @@ impl ScriptedHistory {
         Ok(failed)
     }
 
-    /// Whether its last task is completed in it.
+    /// Whether the history completes its last task.
     fn is_last_recorded(&self) -> bool
         ensures { result ≡ is_last_recorded self.now }
     {
@@ -239,7 +240,7 @@ impl ScriptedHistory {
     }
 }
 
-/// The first history of the name, and its place.
+/// Returns the first history of the name, and its place.
 fn find_named<'a>(
     histories: &'a [ScriptedHistory],
     name: &str,
@@ -254,7 +255,7 @@ fn find_named<'a>(
     None
 }
 
-/// The place of the first history from a place on that has a task `n`, counted from 0.
+/// Returns the place of the first history, from a place on, that has a task `n`, counted from 0.
 fn find_task(histories: &[ScriptedHistory], from: usize, n: usize) -> Option<usize>
     ensures first { result ≡ first_with from n (drop from histories.now) }
     ensures within { IfSome result (λ place. place < length histories.now) }
@@ -268,8 +269,8 @@ fn find_task(histories: &[ScriptedHistory], from: usize, n: usize) -> Option<usi
     None
 }
 
-/// The round after round `n`, counted from 0, and the place of the first history that has a task of
-/// it.
+/// Returns the round after round `n`, counted from 0, and the place of the first history that has a
+/// task in it, if there is one.
 fn find_later(histories: &[ScriptedHistory], n: usize) -> Option<(usize, usize)>
     ensures exact { result ≡ option_map (λ place. (n + 1, place)) (first_with 0 (n + 1) histories.now) }
     ensures within { IfSome result (λ found. found.1 < length histories.now) }
@@ -284,18 +285,19 @@ fn find_later(histories: &[ScriptedHistory], n: usize) -> Option<(usize, usize)>
     None
 }
 
-/// A source over recorded histories, which gives their workflow tasks round by round and stores the
-/// answers that it is sent.
+/// A source over recorded histories, which delivers their workflow tasks round by round and stores
+/// the answers that it is sent.
 ///
 /// A history has a task for each of its `WorkflowTaskStarted` events, failed and timed-out tasks
-/// too. The first round gives the first task of each history in their order, the second round the
-/// second of each that has one, and so on, and after the last task the source is closed. The first
-/// task of a history has its events from the first up to the started event, a later one those since
-/// the task before. The key of a task is the history's name with the run id `recorded`. Its name is
-/// the file's index times 2^64 plus the number of the started event. There are no activity tasks.
+/// too. The first round delivers the first task of each history in their order, the second round
+/// the second task of each history that has one, and so on. After the last task the source is
+/// closed. The first task of a history has the events from the first up to the started event, a
+/// later one those since the task before. The key of a task is the history's name with the run id
+/// `recorded`. Its name is the file's index times 2^64 plus the number of the started event. There
+/// are no activity tasks.
 ///
-/// `whole` gives the events of the first history of the key's name up to the number, and none where
-/// no history has the name or the run id is another. No call fails unless memory runs out.
+/// `whole` returns the events of the first history of the key's name up to the number, and none if
+/// no history has the name or the key has another run id. No call fails unless memory runs out.
 #[derive(Drop)]
 pub struct ScriptSource {
     alloc: Global,
@@ -319,8 +321,9 @@ impl Model for ScriptSource {
 }
 
 impl ScriptSource {
-    /// A source over histories, each with the index of its file and its name. `OutOfMemory` where
-    /// there was no memory for the places of their tasks; the histories are dropped then.
+    /// Returns a source over histories, each with the index of its file and its name. Returns
+    /// `OutOfMemory` if there was no memory for the places of their tasks. The histories are
+    /// dropped then.
     pub fn new(
         alloc: Global,
         histories: Vec<(u64, String, Vec<Event>)>,
@@ -335,7 +338,7 @@ impl ScriptSource {
         Ok(ScriptSource::beginning(alloc, scripted))
     }
 
-    /// A source over histories of which no task was polled yet.
+    /// Returns a source over histories before any task was polled.
     fn beginning(alloc: Global, histories: Vec<ScriptedHistory>) -> ScriptSource
         ensures { result ≡ opening_stage histories.items }
     {
@@ -348,7 +351,7 @@ impl ScriptSource {
         }
     }
 
-    /// How many tasks all histories have together, polled or not: at most 2^64 - 1.
+    /// Counts the tasks of all histories together, polled or not. Stops at 2^64 - 1.
     pub fn deliveries(&self) -> u64
         ensures { result ≡ deliveries_of self.now.histories }
     {
@@ -359,7 +362,7 @@ impl ScriptSource {
         deliveries
     }
 
-    /// How many tasks of the history at a place were polled.
+    /// Counts the polled tasks of the history at a place.
     fn polled(&self, place: usize, history: &ScriptedHistory) -> usize
         ensures exact { result ≡ polled_at self.now place history.now }
         ensures within { result ≤ tasks_in history.now }
@@ -372,8 +375,9 @@ impl ScriptSource {
         rounds.min(history.tasks())
     }
 
-    /// For the first history of the name: how many of its tasks were polled, how many of these one
-    /// of the answers completes, and how many none does. `None` where no history has the name.
+    /// Returns, for the first history of the name, how many of its tasks were polled, how many of
+    /// these an answer completes, and how many no answer completes. Returns `None` if no history
+    /// has the name.
     pub fn tally(&self, name: &str) -> Option<(u64, u64, u64)>
         ensures { result ≡ tally_of self.now name.now }
     {
@@ -387,9 +391,9 @@ impl ScriptSource {
         ))
     }
 
-    /// Those of the polled tasks of the first history of the name that none of the answers
-    /// completes, in their order: as many as `tally` says. None where no history has the name.
-    /// `OutOfMemory` where there was no memory for the list.
+    /// Lists those polled tasks of the first history of the name that no answer completes, in their
+    /// order, as many as `tally` counts. The list is empty if no history has the name. Returns
+    /// `OutOfMemory` if there was no memory for the list.
     pub fn failed(&self, name: &str) -> Result<Vec<FailedTask>, OutOfMemory>
         ensures { IfOk result (λ failed. failed.items ≡ failed_in self.now name.now) }
     {
@@ -400,7 +404,7 @@ impl ScriptSource {
         history.failed(self.alloc, tasks, &self.answers)
     }
 
-    /// Whether the last task of one of the histories is completed in it, so that it has a record.
+    /// Whether one of the histories completes its last task, so that this task has a record.
     pub fn has_last_record(&self) -> bool
         ensures { result ≡ has_last_record self.now }
     {
@@ -409,15 +413,15 @@ impl ScriptSource {
             .any(|history| history.is_last_recorded())
     }
 
-    /// The answers that it was sent, each with the name of its task, in the order in which they
-    /// came.
+    /// Returns the answers that the source was sent, each with the name of its task, in the order
+    /// in which they came.
     pub fn answers(&self) -> &[(TaskName, Sent)]
         ensures { result.now ≡ self.now.answers }
     {
         self.answers.as_slice()
     }
 
-    /// The round and the history of the next task.
+    /// Returns the round of the next task and the place of its history, if a task is left.
     fn upcoming(&self) -> Option<(usize, usize)>
         ensures exact { result ≡ upcoming self.now }
         ensures within { IfSome result (λ found. found.1 < length self.now.histories) }
@@ -446,7 +450,7 @@ impl TaskSource for ScriptSource {
 
     ghost comes_from = { ComesFrom };
 
-    // Its histories are given, and whatever is answered they go on as they stand.
+    // Its histories are recorded: they go on as they are, whatever is answered.
     ghost caches = { λ source name. Unit {0} };
 
     fn poll_workflow(&mut self) -> Result<Polled<WorkflowTask>, SourceFault>
@@ -480,7 +484,7 @@ impl TaskSource for ScriptSource {
     }
 
     fn whole(&mut self, key: &RunKey, up_to: u64) -> Result<Vec<Event>, SourceFault>
-        ensures told { IfOk result (λ history. history.items ≡ told self.old.histories key.now up_to) }
+        ensures fetched { IfOk result (λ history. history.items ≡ told self.old.histories key.now up_to) }
         ensures memory { IfErr result (λ fault. fault ≡ SourceFault.OutOfMemory) }
         ensures same { self.new ≡ self.old }
     {

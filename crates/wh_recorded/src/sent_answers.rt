@@ -17,8 +17,8 @@ use wh_replay::{Answer, Fault};
 use wh_slots::TaskName;
 use wh_tasks::{Sent, SourceFault};
 
-/// Enters the name among those of completed tasks, if the answer completes its task, or the fault
-/// under the name, if the task failed by one. Where memory ran out nothing is entered.
+/// Adds the name to those of completed tasks, if the answer completes its task, or stores the fault
+/// under the name, if the answer is a fault. If there was no memory, nothing is stored.
 fn enter(
     completed: &mut BTreeSet<u128>,
     faults: &mut BTreeMap<u128, Fault>,
@@ -47,7 +47,7 @@ fn enter(
 }
 
 /// The answers that a source was sent, in the order in which they came, with the names of the tasks
-/// that one of them completes, and the last fault under each name that has one.
+/// that they complete, and the last fault under each name that has one.
 #[derive(Drop)]
 pub(crate) struct SentAnswers {
     list: Vec<(TaskName, Sent)>,
@@ -74,7 +74,7 @@ impl Model for SentAnswers {
 }
 
 impl SentAnswers {
-    /// None were sent yet. It takes no memory.
+    /// Returns a list of no answers. Allocates nothing.
     pub(crate) fn new(alloc: Global) -> SentAnswers
         ensures { result ≡ [] }
     {
@@ -85,28 +85,28 @@ impl SentAnswers {
         }
     }
 
-    /// The answers, each with the name of its task.
+    /// Returns the answers, each with the name of its task.
     pub(crate) fn as_slice(&self) -> &[(TaskName, Sent)]
         ensures { result.now ≡ self.now }
     {
         self.list.as_slice()
     }
 
-    /// Whether one of the answers completes the task of this name.
+    /// Whether an answer completes the task of this name.
     pub(crate) fn is_completed(&self, name: TaskName) -> bool
         ensures { result ≡ is_completed self.now name }
     {
         self.completed.contains(&name.0)
     }
 
-    /// The fault that the task of this name failed by: the last that was sent under it.
+    /// Returns the fault of the task of this name: the last that was sent under the name.
     pub(crate) fn fault_under(&self, name: TaskName) -> Option<Fault>
         ensures { result ≡ fault_under self.now name }
     {
         self.faults.get(&name.0).copied()
     }
 
-    /// One more answer was sent. Where memory ran out the answers are as they were.
+    /// Stores one more answer. If there was no memory, the answers stay as they were.
     pub(crate) fn store(&mut self, name: TaskName, sent: Sent) -> Result<(), SourceFault>
         ensures sent { OnOk result (self.new ≡ self.old ++ (name, sent) ∷ []) }
         ensures unsent { OnErr result (self.new ≡ self.old) }

@@ -1,4 +1,4 @@
--- Words on sources of tasks.
+-- What contracts say of sources of tasks.
 use Rattle.std.specs.Prelude.{◌↔◌, ℕ, ◌<◌, ◌≤◌, List, Option, Some, None, Result, Ok, Err}
 use Rattle.wh_events.specs.declared.event.Event.{Event}
 use Rattle.wh_events.specs.declared.key.RunKey.{RunKey}
@@ -25,7 +25,7 @@ Answers = List (TaskName × Sent)
 abbrev pub Delivers : Type 1
 Delivers = Delivery → Type 0
 
--- which histories a source tells of a run up to a number
+-- which histories a source may fetch of a run, up to a number
 abbrev pub MayFetch : Type 1
 MayFetch = RunKey → ℕ → List Event → Type 0
 
@@ -37,21 +37,21 @@ Answerable = ActivityTask → ActivityAnswer → Type 0
 abbrev pub SameDeliveries : Delivers → Delivers → Type 0
 SameDeliveries p q = (task : Delivery) → p task ↔ q task
 
--- both tell the same histories
+-- both fetch the same histories
 abbrev pub SameFetching : MayFetch → MayFetch → Type 0
 SameFetching p q = (key : RunKey) (up_to : ℕ) (history : List Event) → p key up_to history ↔ q key up_to history
 
--- a source delivers the same tasks and tells the same histories as before
+-- a source delivers the same tasks and fetches the same histories as before
 pub record SameTasks (old_delivers : Delivers) (old_tells : MayFetch)
     (new_delivers : Delivers) (new_tells : MayFetch) : Type 0 where
   pub delivers : SameDeliveries old_delivers new_delivers
   pub fetches : SameFetching old_tells new_tells
 
--- what a source came from before, it comes from afterwards
+-- a source still comes from all the sources that it came from before
 abbrev pub KeepsOrigin : {S : Type 0} → (S → S → Type 0) → S → S → Type 0
 KeepsOrigin comes_from old new = (first : _) → comes_from old first → comes_from new first
 
--- what a call keeps of a source: it with the same `delivers` and `fetches`, and comes from what it came from
+-- what a call keeps of a source: `delivers`, `fetches`, and the sources that it came from
 pub record KeepsSource {S : Type 0} (delivers : S → Delivers) (fetches : S → MayFetch) (comes_from : S → S → Type 0)
     (old new : S) : Type 0 where
   pub same : SameTasks (delivers old) (fetches old) (delivers new) (fetches new)
@@ -61,27 +61,27 @@ pub record KeepsSource {S : Type 0} (delivers : S → Delivers) (fetches : S →
 abbrev pub CachesAll : {S : Type 0} → (S → TaskName → Type 0) → S → Type 0
 CachesAll caches source = (name : TaskName) → caches source name
 
--- no run may be cached that might not be before
+-- no run may be cached now that might not be cached before
 abbrev pub CachesNoMore : {S : Type 0} → (S → TaskName → Type 0) → S → S → Type 0
 CachesNoMore caches old new = (name : TaskName) → caches new name → caches old name
 
--- both let the same answers be given
+-- both allow the same answers
 abbrev pub SameMay : Answerable → Answerable → Type 0
 SameMay p q = (task : ActivityTask) (answer : ActivityAnswer) → p task answer ↔ q task answer
 
--- it holds of the task, where the poll gave one
+-- the property holds for the polled task, if there is one
 abbrev pub IfTask : {A : Type 0} → (A → Type 0) → Polled A → Type 0
 IfTask p (Task task) = p task
 IfTask p Nothing = Unit {0}
 IfTask p Closed = Unit {0}
 
--- the count never falls, and it rises where the source fails
+-- the count of failures never falls, and it rises if the source failed
 abbrev pub FailsOnly : {A : Type 0} → Result A SourceFault → ℕ → ℕ → Type 0
 FailsOnly (Ok x) old new = old ≤ new
 FailsOnly (Err Source) old new = old < new
 FailsOnly (Err OutOfMemory) old new = old ≤ new
 
--- where a fault of the source is kept, its count rose
+-- the count of failures never fell, and it rose if a fault of the source is kept
 abbrev pub RoseIfFailed : Option SourceFault → ℕ → ℕ → Type 0
 RoseIfFailed None old new = old ≤ new
 RoseIfFailed (Some Source) old new = old < new

@@ -1,4 +1,4 @@
--- What replay of a task gives, and from which events.
+-- The result of replaying a task, and the events that it is replayed from.
 use Rattle.std.specs.Prelude.{◌≡◌, ℕ, ◌++◌, ◌<◌, ◌≤◌, Bool, true, false, List, [], ◌∷◌, length, Option, Some, None, is_some, Result, Ok, Err, if◌then◌else◌}
 use Rattle.wh_events.specs.declared.event.Event.{Event}
 use Rattle.wh_replay.specs.declared.fault.Fault.{Fault}
@@ -17,33 +17,34 @@ use Rattle.wh_tasks.specs.declared.source.SourceFault.TheVariants.{Source as Fai
 use Rattle.wh_tasks.specs.declared.task.StepFault.{StepFault}
 use Rattle.wh_tasks.specs.declared.task.StepFault.TheVariants.{Source, OutOfMemory}
 
--- the events that a task is replayed from: its own, none, those of the run followed by its own, or those that
--- the source tells
+-- the events that a task is replayed from: its own, none, those of the run followed by its own, or those fetched from
+-- the source
 pub data Basis : Type 0 where
   Own : Basis
   Nothing : Basis
   Joined : List Event → Basis
   Told : Basis
 
--- where the events do not begin with the first: the run decides
+-- the basis if the events do not begin with the first of the history, by the run
 abbrev pub later_basis : Option Held → List Event → Basis
 later_basis None [] = Nothing
 later_basis None (event ∷ rest) = Told
 later_basis (Some run) events =
     if ends_in_task events then (if follows (length run.events) events then Joined run.events else Told) else Nothing
 
--- the first that applies
+-- the first basis that applies
 abbrev pub basis_of : Option Held → List Event → Basis
 basis_of run events = if follows 0 events then Own else later_basis run events
 
--- where memory is needed: to replay events that end in a started task, or that the source is asked for
+-- replay needs memory: always for `Joined` and `Told`, for `Own` only if the events end in a started task, and never
+-- for `Nothing`
 abbrev pub NeedsMemory : Basis → List Event → Type 0
 NeedsMemory Own events = ends_in_task events ≡ true
 NeedsMemory Nothing events = ⊥
 NeedsMemory (Joined held) events = Unit {0}
 NeedsMemory Told events = Unit {0}
 
--- the source is asked only where the task is replayed from what it tells
+-- replay fetches a history from the source: only for `Told`
 abbrev pub AsksSource : Basis → Type 0
 AsksSource Own = ⊥
 AsksSource Nothing = ⊥
@@ -55,8 +56,8 @@ abbrev pub answer_to : {S : Type 0} → Program S → List Event → Answer
 answer_to program events = answered (run_of program events)
 
 module _ {S : Type 0} (program : Program S) where
-  -- without a fault a run of the key holds the events, with what their replay gives, and the meter
-  -- rises by the steps; a fault answers the events
+  -- without a fault, a run of the key holds the events with what their replay gives, and the meter rises by the steps;
+  -- a fault is the answer to the events
   abbrev pub Replays : RunKey → List Event → ℕ → Option Held → Option Fault → ℕ → ℕ → Type 0
   Replays key events steps (Some run) None before after =
       Holds program key events run × (after ≡ risen before steps)
@@ -64,14 +65,14 @@ module _ {S : Type 0} (program : Program S) where
   Replays key events steps (Some run) (Some fault) before after = ⊥
   Replays key events steps None None before after = ⊥
 
-  -- replay from the first event of what the source tells
+  -- replay of a fetched history from its first event
   abbrev pub ReplaysFetched : MayFetch → RunKey → ℕ → Option Held → Option Fault → ℕ → ℕ → Type 0
   ReplaysFetched fetches key up_to run fault before after =
       (history : List Event)
       × fetches key up_to history
       × Replays key history (steps program history) run fault before after
 
-  -- the run and the fault that a task gives, whether its run was hit, and the meter before and after
+  -- the run and the fault that replay of a task gives, whether its run was a hit, and the meter before and after
   abbrev pub StepsFrom : Basis → MayFetch → Option Held → RunKey → List Event
       → Option Held → Option Fault → Bool → ℕ → ℕ → Type 0
   StepsFrom Own fetches run key events stepped fault hit before after =
@@ -101,7 +102,7 @@ HasAnswer stepped (Some fault) = Unit {0}
 HasAnswer (Some run) None = Unit {0}
 HasAnswer None None = ⊥
 
--- the source's count never falls, and it rises where the source fails
+-- the source's count of failures never falls, and it rises if the source failed
 abbrev pub FailsOnlySource : {A : Type 0} → Result A StepFault → ℕ → ℕ → Type 0
 FailsOnlySource (Ok x) old new = old ≤ new
 FailsOnlySource (Err (Source Failed)) old new = old < new

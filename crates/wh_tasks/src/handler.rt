@@ -1,4 +1,4 @@
-//! What runs activities, and what is entered before a workflow task is replayed.
+//! Activity handlers, and gates that workflow tasks pass before they are replayed.
 ghost use Rattle.std.specs.Prelude.{IfOk};
 
 use crate::source::{ActivityAnswer, ActivityTask};
@@ -7,8 +7,8 @@ use std::sync::Wait;
 use wh_events::{OutOfMemory, Text};
 use wh_slots::TaskName;
 
-/// Runs activities, one for each worker. What an activity does is its own; contracts see what it
-/// may answer.
+/// Runs activities, one handler for each worker. Contracts see which answers an activity may give,
+/// and nothing else of what it does.
 pub trait ActivityHandler {
     ghost use Rattle.wh_tasks.specs.Source.{SameMay};
     ghost use Rattle.wh_tasks.specs.declared.source.ActivityTask.{ActivityTask};
@@ -17,17 +17,18 @@ pub trait ActivityHandler {
     /// Which answers a task may get. No call changes it.
     ghost may: { Self → ActivityTask → ActivityAnswer → Type 0 };
 
-    /// Runs the task and gives its answer. `OutOfMemory` where there was no memory: the task then
-    /// gets no answer.
+    /// Runs the task and returns its answer. Returns `OutOfMemory` if there was no memory. The task
+    /// then gets no answer.
     fn run(&mut self, task: &ActivityTask) -> Result<ActivityAnswer, OutOfMemory>
         ensures answer { IfOk result (λ answer. may self.old task.now answer) }
         ensures may { SameMay (may self.old) (may self.new) };
 }
 
-/// Is entered right before a workflow task is stepped, while no lock of the host is held. It may
-/// wait, and so let a test have two tasks overlap; it must come back for the worker to go on.
+/// A gate that each workflow task passes right before it is replayed, while no lock of the host is
+/// held. It may wait, so that a test can make two tasks overlap. The worker goes on only when the
+/// call returns.
 pub trait Gate {
-    /// Lets the task go on, now or later.
+    /// Returns when the task may go on, at once or later.
     fn enter<R: Wait>(&self, rt: &R, name: TaskName);
 }
 
@@ -35,7 +36,7 @@ pub trait Gate {
 /// activities".
 #[derive(Drop)]
 pub struct NoActivities {
-    /// Where the reason is made.
+    /// The allocator for the reason.
     pub alloc: Global,
 }
 

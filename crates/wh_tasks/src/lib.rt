@@ -1,5 +1,5 @@
-//! Tasks: the sources that give them and take their answers, the handlers of activities, and the
-//! replay of a workflow task.
+//! Tasks: the sources that deliver them and take their answers, activity handlers, and the replay
+//! of a workflow task.
 #![tactic(auto)]
 
 mod handler;

@@ -1,12 +1,12 @@
-//! Where tasks come from, and where their answers go.
+//! Sources of tasks: workers poll them, and send them the answers.
 ghost use Rattle.std.specs.Prelude.{◌≡◌, ◌++◌, ◌∷◌, [], ℕ, List, IfOk, OnOk, OnErr};
 
 use wh_events::{Event, Items, OutOfMemory, Payload, RunKey, Text};
 use wh_replay::Answer;
 use wh_slots::TaskName;
 
-/// A workflow task, as a poll of a Task Queue gives it (Temporal documentation, "Workers" and "Task
-/// Queues").
+/// A workflow task, as a poll of a Task Queue returns it (Temporal documentation, "Workers" and
+/// "Task Queues").
 #[derive(Drop, Debug)]
 pub struct WorkflowTask {
     /// The source's name of the task, under which it is answered.
@@ -18,7 +18,7 @@ pub struct WorkflowTask {
     pub events: Items<Event>,
 }
 
-/// An activity task, as a poll gives it.
+/// An activity task, as a poll returns it.
 #[derive(Drop, Debug)]
 pub struct ActivityTask {
     /// The source's name of the task, under which it is answered.
@@ -29,11 +29,11 @@ pub struct ActivityTask {
     pub id: Text,
     /// The type of the activity.
     pub activity: Text,
-    /// What the activity is given.
+    /// The input of the activity.
     pub input: Items<Payload>,
 }
 
-/// What a poll gives.
+/// The result of a poll.
 #[derive(Drop, Debug)]
 pub enum Polled<T> {
     /// A task.
@@ -44,7 +44,7 @@ pub enum Polled<T> {
     Closed,
 }
 
-/// What is sent back for an activity task.
+/// The answer to an activity task.
 #[derive(Drop, Debug)]
 pub enum ActivityAnswer {
     /// The activity's result.
@@ -54,7 +54,7 @@ pub enum ActivityAnswer {
 }
 
 impl ActivityAnswer {
-    /// An equal answer. `OutOfMemory` where there was no memory for the copy.
+    /// Returns an equal answer, or `OutOfMemory` if there was no memory for the copy.
     pub fn try_copy(&self) -> Result<ActivityAnswer, OutOfMemory>
         ensures { IfOk result (λ copy. copy ≡ self.now) }
     {
@@ -68,13 +68,13 @@ impl ActivityAnswer {
 /// An answer to a task of either kind, as a source may store it.
 #[derive(Drop, Debug)]
 pub enum Sent {
-    /// To a workflow task.
+    /// The answer to a workflow task.
     Workflow(Answer),
-    /// To an activity task.
+    /// The answer to an activity task.
     Activity(ActivityAnswer),
 }
 
-/// Why a call of a source gave or sent nothing.
+/// Why a call of a source returned or sent nothing.
 #[derive(Clone, Copy, PartialEq, Eq, Debug)]
 pub enum SourceFault {
     /// The source failed. Its count of failures rose in that call.
@@ -83,31 +83,36 @@ pub enum SourceFault {
     OutOfMemory,
 }
 
-/// What becomes of the run that a workflow task was replayed to (Temporal documentation, "Sticky
-/// Execution").
+/// Whether the run that replay of a workflow task returned may be cached (Temporal documentation,
+/// "Sticky Execution").
 #[derive(Clone, Copy, PartialEq, Eq, Debug)]
 pub enum RunUse {
-    /// It may be cached, and a later task go on from it.
+    /// The run may be cached, so that a later task can go on from it.
     Cache,
-    /// It is dropped: the history may go on otherwise.
+    /// The run is dropped: the history may go on differently.
     Discard,
 }
 
-/// What came of sending the answer to a workflow task.
+/// The result of sending the answer to a workflow task.
 #[derive(Clone, Copy, PartialEq, Eq, Debug)]
 pub struct Acceptance {
-    /// Whether the source took the answer. After a fault nothing was taken.
+    /// Whether the source accepted the answer. After a fault it has not accepted it.
     pub sent: Result<(), SourceFault>,
-    /// What becomes of the run of the task.
+    /// Whether the run of the task may be cached.
     pub run: RunUse,
 }
 
-/// A source of tasks, one for each worker: what a worker polls, and what it answers. It has a list
-/// of the answers that it took, a count of its failures, which no call lowers, two relations that
-/// no call changes: which tasks it delivers, and which histories it fetches (`fetches`), one that no
-/// call leads out of: which sources it comes from, and one that holds of no task that was just
-/// polled unless it holds of all: of which tasks the runs may be cached. That its histories are
-/// true is its own promise.
+/// A source of tasks, one for each worker: the worker polls it, and sends it the answers. Contracts
+/// see of a source:
+/// - the answers that it accepted (`answers`);
+/// - a count of its failures, which no call lowers (`failures`);
+/// - which tasks it delivers, and which histories it may fetch, which no call changes (`delivers`,
+///   `fetches`);
+/// - which sources it comes from, and goes on to come from after each call (`comes_from`);
+/// - which tasks' runs may be cached (`caches`). A task that was just polled is not one of them,
+///   unless the runs of all tasks may be cached.
+///
+/// That its histories are the true ones is the source's own promise.
 pub trait TaskSource {
     ghost use Rattle.wh_slots.specs.declared.TaskName.{TaskName};
     ghost use Rattle.wh_events.specs.declared.event.Event.{Event};
@@ -118,27 +123,28 @@ pub trait TaskSource {
     ghost use Rattle.wh_tasks.specs.Source.{Delivery, Workflow, Activity, IfTask, FailsOnly, KeepsSource};
     ghost use Rattle.wh_tasks.specs.Source.{CachesAll, CachesNoMore};
 
-    /// The answers that were taken, with their tasks' names.
+    /// The answers that the source accepted, with their tasks' names.
     ghost answers: { Self → List (TaskName × Sent) };
 
-    /// How often a call failed.
+    /// How often a call of the source failed.
     ghost failures: { Self → ℕ };
 
-    /// Which tasks the polls may give. No call changes it.
+    /// Which tasks the polls may return. No call changes it.
     ghost delivers: { Self → Delivery → Type 0 };
 
-    /// What `whole` may give for a run's key and a number. No call changes it.
+    /// Which histories `whole` may return for a run's key and a number. No call changes it.
     ghost fetches: { Self → RunKey → ℕ → List Event → Type 0 };
 
-    /// Which sources this one comes from: what calls may have made it of. No call leads away from
-    /// them, so a source says by it what its calls keep.
+    /// Which sources this one comes from: the earlier sources that calls may have made it of. It
+    /// comes from them after each further call too, so this relation says what the calls keep.
     ghost comes_from: { Self → Self → Type 0 };
 
-    /// Of which tasks the runs may be cached.
+    /// Which tasks' runs may be cached.
     ghost caches: { Self → TaskName → Type 0 };
 
-    /// The next workflow task, if there is one. Its run may not be cached before it is answered,
-    /// unless all may. A fault gives none, and sends nothing.
+    /// Polls the next workflow task, if there is one. Its run may not be cached before the task is
+    /// answered, unless the runs of all tasks may be cached. A fault returns no task. Nothing is
+    /// sent.
     fn poll_workflow(&mut self) -> Result<Polled<WorkflowTask>, SourceFault>
         ensures task { IfOk result (IfTask (λ task. delivers self.old (Workflow task))) }
         ensures run { IfOk result (IfTask (λ task. caches self.new task.name → CachesAll caches self.new)) }
@@ -146,37 +152,38 @@ pub trait TaskSource {
         ensures failures { FailsOnly result (failures self.old) (failures self.new) }
         ensures keeps { KeepsSource delivers fetches comes_from self.old self.new };
 
-    /// The next activity task, if there is one. A fault gives none, and sends nothing.
+    /// Polls the next activity task, if there is one. A fault returns no task. Nothing is sent.
     fn poll_activity(&mut self) -> Result<Polled<ActivityTask>, SourceFault>
         ensures task { IfOk result (IfTask (λ task. delivers self.old (Activity task))) }
         ensures answers { answers self.new ≡ answers self.old }
         ensures failures { FailsOnly result (failures self.old) (failures self.new) }
         ensures keeps { KeepsSource delivers fetches comes_from self.old self.new };
 
-    /// The history of a run from its first event up to the one of a number. No run more may be
-    /// cached afterwards. A fault gives none, and sends nothing.
+    /// Fetches the history of a run from its first event up to the one of a number. Afterwards no
+    /// more runs may be cached than before. A fault returns no history. Nothing is sent.
     fn whole(&mut self, key: &RunKey, up_to: u64) -> Result<Vec<Event>, SourceFault>
-        ensures told { IfOk result (λ history. fetches self.old key.now up_to history.items) }
+        ensures fetched { IfOk result (λ history. fetches self.old key.now up_to history.items) }
         ensures runs { CachesNoMore caches self.old self.new }
         ensures answers { answers self.new ≡ answers self.old }
         ensures failures { FailsOnly result (failures self.old) (failures self.new) }
         ensures keeps { KeepsSource delivers fetches comes_from self.old self.new };
 
-    /// Sends the answer to the workflow task of a name. After a fault nothing was taken.
+    /// Sends the answer to the workflow task of a name. After a fault it was not accepted.
     fn answer_workflow(&mut self, name: TaskName, answer: &Answer) -> Result<(), SourceFault>
         ensures sent { OnOk result (answers self.new ≡ answers self.old ++ (name, OfWorkflow answer.now) ∷ []) }
         ensures unsent { OnErr result (answers self.new ≡ answers self.old) }
         ensures failures { FailsOnly result (failures self.old) (failures self.new) }
         ensures keeps { KeepsSource delivers fetches comes_from self.old self.new };
 
-    /// Sends the answer to the workflow task of a name, and shows the events that it was replayed
-    /// from, those of the run that replay gave and none where it gave no run, and how many steps
-    /// replay took. It says whether the run may be cached, also where sending failed: a source says
-    /// no where the answer does not count, so that the run may differ from the history that goes
-    /// on. A source that has to know the events, as for the number of the one that a canceled
-    /// activity was scheduled by, that logs the steps, or that lets some runs alone be cached,
-    /// answers here. For every other one this is `answer_workflow`, and the run is used as one
-    /// without an answer.
+    /// Sends the answer to the workflow task of a name, with the events of the run that replay
+    /// returned, none if it returned no run, and the number of steps that replay took. Returns
+    /// whether the answer was sent, and whether the run may be cached, also if sending failed. The
+    /// run may not be cached if the answer does not count, because the history may then go on
+    /// differently.
+    ///
+    /// A source implements this if it needs the events, as for the number of the event that
+    /// scheduled a canceled activity, if it logs the steps, or if only some runs may be cached. By
+    /// default it calls `answer_workflow`, and treats the run as one without an answer.
     fn answer_replayed(
         &mut self,
         name: TaskName,
@@ -195,12 +202,12 @@ pub trait TaskSource {
         Acceptance { sent, run }
     }
 
-    /// What becomes of the run of a workflow task whose answer was never sent, as where there was
-    /// no memory for it: `Cache` only where the runs of all tasks may be cached.
+    /// Returns what becomes of the run of a workflow task whose answer was never sent, as when
+    /// there was no memory for it. Returns `Cache` only if the runs of all tasks may be cached.
     fn without_answer(&self) -> RunUse
         ensures { result ≡ RunUse.Cache → CachesAll caches self.now };
 
-    /// Sends the answer to the activity task of a name. After a fault nothing was taken.
+    /// Sends the answer to the activity task of a name. After a fault it was not accepted.
     fn answer_activity(
         &mut self,
         name: TaskName,

@@ -15,17 +15,17 @@ use wh_events::{Event, OutOfMemory, RunKey};
 use wh_replay::{AdvanceFault, Fault, Run, RunFault, ends_in_task};
 use wh_workflow::{Meter, Workflow};
 
-/// What replay of a workflow task gave: a run or a fault. The answer is `Fail` of the fault, else
-/// the run's commands.
+/// The result of replaying a workflow task: a run or a fault. The answer is `Fail` of the fault,
+/// else the run's commands.
 #[derive(Drop)]
 pub struct Stepped<W: Workflow> {
     /// The run that may be cached. Without a fault it holds the history that the task was replayed
-    /// from. After `NotATask` it is the run that was handed in, if there was one, as it was; after
+    /// from. After `NotATask` it is the run that was passed in, if there was one, as it was. After
     /// any other fault there is none.
     pub run: Option<Run<W>>,
-    /// Why the task is answered `Fail`.
+    /// Why the task is answered with `Fail`.
     pub fault: Option<Fault>,
-    /// Whether the run that was handed in was used.
+    /// Whether the run that was passed in was used.
     pub hit: bool,
 }
 
@@ -52,21 +52,20 @@ impl From<OutOfMemory> for StepFault {
 /// Replays a workflow task from its run, if one was cached, and its events, by the first case that
 /// applies:
 ///
-/// 1. The events begin with the first of the history: they are replayed by themselves, and the run
-///    is dropped.
-/// 2. There are no events, or there is a run and the events do not end in a started task: the fault
-///    is `NotATask`, the source is
-///    not asked, and the run comes back.
-/// 3. There is a run and the events begin right after those that it holds: it is advanced by them,
-///    a hit.
-/// 4. Else the source is asked for the whole history up to the last event, which is replayed from
-///    the first; the run is dropped.
+/// 1. If the events begin with the first of the history, they are replayed alone, and the run is
+///    dropped.
+/// 2. If there are no events, or if there is a run and the events do not end in a started task, the
+///    fault is `NotATask`. The run comes back, and nothing is fetched.
+/// 3. If there is a run and the events begin right after those that it holds, the run is advanced
+///    by them. This is a hit.
+/// 4. Else the whole history up to the last event is fetched from the source and replayed from the
+///    first event. The run is dropped.
 ///
-/// The meter rises by the steps of replay, in the third case by those of the new tasks alone where
-/// the events confirm the run. `Source` where the source fails when it is asked, `OutOfMemory`
-/// where there was no memory; then the run is dropped and nothing is left to send. A task that ends in
-/// no started task needs no memory, unless the source has to be asked. (Temporal documentation,
-/// "Sticky Execution": a Worker that has no cached run asks for the full history.)
+/// The meter rises by the steps of replay, in the third case only by those of the new tasks if the
+/// events confirm the run. Returns `Source` if fetching failed, and `OutOfMemory` if there was no
+/// memory. The run is dropped then, and there is nothing to send. Events that do not end in a
+/// started task need no memory, unless a history is fetched. (Temporal documentation, "Sticky
+/// Execution": a Worker without a cached run fetches the full history.)
 pub fn replay_task<W: Workflow, S: TaskSource>(
     alloc: Global,
     run: Option<Run<W>>,
@@ -98,7 +97,7 @@ pub fn replay_task<W: Workflow, S: TaskSource>(
     }
 }
 
-/// Replays events that do not begin with the first, from a run.
+/// Replays events that do not begin with the first of a history, with a cached run.
 fn replay_held<W: Workflow, S: TaskSource>(
     alloc: Global,
     run: Run<W>,
@@ -144,7 +143,7 @@ fn replay_held<W: Workflow, S: TaskSource>(
     }
 }
 
-/// Replays events that do not begin with the first, without a run.
+/// Replays events that do not begin with the first of a history, without a cached run.
 fn replay_unheld<W: Workflow, S: TaskSource>(
     alloc: Global,
     key: &RunKey,
@@ -175,7 +174,7 @@ fn replay_unheld<W: Workflow, S: TaskSource>(
     replay_fetched(alloc, key, last_number(events), source, meter)
 }
 
-/// Replays events from the first.
+/// Replays a history from its first event.
 fn replay_first<W: Workflow>(
     alloc: Global,
     key: &RunKey,
@@ -212,7 +211,7 @@ fn replay_first<W: Workflow>(
     }
 }
 
-/// Replays the history that is fetched from the source, from the first event.
+/// Fetches a history from the source, and replays it from its first event.
 fn replay_fetched<W: Workflow, S: TaskSource>(
     alloc: Global,
     key: &RunKey,
@@ -235,7 +234,7 @@ fn replay_fetched<W: Workflow, S: TaskSource>(
     replay_first(alloc, key, history, meter)
 }
 
-/// Whether the events begin with the first of a history.
+/// Whether the events begin with the first event of a history.
 fn is_whole(events: &[Event]) -> bool
     ensures { result ≡ follows 0 events.now }
 {
@@ -245,7 +244,7 @@ fn is_whole(events: &[Event]) -> bool
     }
 }
 
-/// The number of the last event, 0 where there is none.
+/// Returns the number of the last event, or 0 if there is none.
 pub fn last_number(events: &[Event]) -> u64
     ensures { result ≡ last_number events.now }
 {
