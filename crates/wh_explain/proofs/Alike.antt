@@ -1,4 +1,4 @@
--- What is sent beside what is recorded, one event after another.
+-- The commands that are sent beside the recorded events, one event after another.
 use Rattle.std.proofs.Common.{◌≡◌, ◌∙◌, ℕ, ◌+◌, ◌<◌, Bool, true, if◌then◌else◌, List, [], ◌∷◌, ◌++◌, drop, length, get_or, Result, Ok, Err, IfOk, IsOkAnd, ap, sym, append_assoc}
 use Rattle.std.proofs.lemmas.List.{drop_more}
 use Rattle.wh_events.specs.declared.event.Event.{Event}

@@ -157,7 +157,7 @@ module _ {S : Type 0} (program : Program S) (lawful : IsLawful program) (events 
       subst (λ r. LeavesBy r left.state left.script.settled (fault_at number fault (mismatch_with events (reduced context left.script.issued) context.recorded))) (sym is)
       (ended events context number left fault (below_risen left.meter current.meter (length task.steps) refl))
 
--- a recorded task of which nothing is shown
+-- a recorded task that shows nothing
 pub passed_end : (detail : Detail) (at : ℕ) (events : List Event) (sent : List Command) (recorded : List Event) (found : Option Mismatch) (end : TaskEnd) → found ≡ mismatch events sent recorded → is_passed detail found ≡ true → end.ending ≡ None → end.stop ≡ None → IsEnd detail at events sent None (Some recorded) end
 passed_end Verdict at events sent recorded None end is passes ending stop = recorded_end Verdict at events sent recorded None end is tt (ap fault_of stop) (ap difference_in stop)
 passed_end Verdict at events sent recorded (Some first) end is passes ending stop = absurd (cc)
@@ -170,7 +170,7 @@ shown_end detail at events sent recorded found end shown is same ending fault di
     recorded_end detail at events sent recorded found end is (keeps_whole detail end.ending (Some (Recorded (pairings events sent recorded))) (ending ∙ ap (λ l. Some (Recorded l)) same)) fault
     (difference ∙ ap (λ l. if_some found (if_differs (last_of l))) same)
 
--- a task of which a command can't stand
+-- a task with an invalid command
 pub refused_end : (detail : Detail) (at : ℕ) (events : List Event) (sent : List Command) (fault : WorkflowFault) (recorded : Option (List Event)) (end : TaskEnd) → end.ending ≡ Some Refused → fault_of end.stop ≡ Some (WorkflowFaulty at fault) → difference_in end.stop ≡ None
     → IsEnd detail at events sent (Some fault) recorded end
 refused_end detail at events sent fault recorded end ending stop difference = record { keeps = keeps_whole detail end.ending (Some Refused) ending; stops_by = stop; differs_in = difference }

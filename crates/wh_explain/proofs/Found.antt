@@ -1,4 +1,4 @@
--- Where replay stops at a difference, the explanation ends in it.
+-- If replay stops at a difference, the explanation ends in it.
 use Rattle.std.proofs.Common.{◌≡◌, ◌∙◌, ℕ, suc, ◌+◌, ◌-◌, Bool, true, false, cond, List, [], ◌∷◌, ◌++◌, length, Option, Some, None, Result, Ok, Err, refl, sym, ap, subst, arith}
 use Rattle.std.specs.Prelude.{IsSome, slice_get, ⊤}
 use Rattle.std.specs.List.{list_any}

@@ -1,4 +1,4 @@
--- What is found of a history, by its tasks.
+-- What replay finds of a history, by its tasks.
 use Rattle.std.proofs.Common.{◌≡◌, ◌∙◌, ℕ, Bool, true, false, cond, List, [], length, Option, Some, None, Result, Ok, Err, refl, sym, ap, subst}
 use Rattle.std.specs.Prelude.{◌≢◌, ◌≤◌, IfErr, IfOk, IfSome, IsSome}
 use Rattle.wh_events.specs.declared.event.Event.{Event}
@@ -81,7 +81,7 @@ module _ {S : Type 0} (program : Program S) where
       ap (λ r. judged (and_then r (λ _. Ok all))) (sym ends)
       ∙ ap (λ b. judged (and_then (replay_known b (replay_after program [] [] events (start program (workflow_of events) 0))) (λ _. Ok all))) (sym known)
 
-  -- what is found where there is code for the workflow type
+  -- what replay finds if the workflow type is registered
   pub walk_found : (detail : Detail) (events : List Event) (walk : Walk) (finding : Finding) (kept : List ExplainedTask) → program.knows (workflow_of events) ≡ true → IsWalk detail program events (program.initial (workflow_of events)) [] walk
       → kept ≡ walk.tasks.items → finding.unknown ≡ None → finding.verdict ≡ verdict_by (fault_of walk.stop) walk.checked → finding.difference ≡ difference_in walk.stop → AreFoundPlaced detail program (Ok events) finding kept
   walk_found detail events walk finding kept known walks same none verdict difference = record {
@@ -187,7 +187,7 @@ pub all_ok : {X E : Type 0} {P Q : X → Type 0} (r : Result X E) → ((x : X) �
 all_ok (Ok x) f p = f x p
 all_ok (Err e) f p = tt
 
--- what is found where there is no code, if there is memory for it
+-- what replay finds if the workflow type is not registered, if there is memory for it
 pub no_code_given : {S E : Type 0} (program : Program S) (detail : Detail) (events : List Event) (kind : List ℕ) (given : Result Findings E) → program.knows (workflow_of events) ≡ false → kind ≡ workflow_of events → IfOk given (λ f. f.tasks.items ≡ [])
     → IfOk given (λ f. f.finding.unknown ≡ Some kind) → IfOk given (λ f. f.finding.difference ≡ None) → IfOk given (λ f. f.finding.verdict ≡ Faulty (WorkflowFaulty 1 UnknownWorkflow))
     → IfOk given (λ f. AreFoundPlaced detail program (Ok events) f.finding f.tasks.items)

@@ -1,4 +1,4 @@
--- The last of a list, by taking it away.
+-- The last element of a list, and the list without it.
 use Rattle.std.proofs.Common.{◌≡◌, ◌∙◌, ◌<◌, ◌-◌, false, true, List, [], ◌∷◌, ◌++◌, length, Option, Some, None, slice_get, refl, ap, arith}
 use Rattle.std.specs.Prelude.{◌↔◌, IsSome, option_to_list}
 use Rattle.std.proofs.lemmas.List.{length_push}

@@ -33,7 +33,7 @@ up_to_place given front rest command place is size =
     let long : place ≡ length (front ++ command ∷ []) = size ∙ sym (length-append front (command ∷ [])) in
     rw (whole, long) (take-append_seam (front ++ command ∷ []) rest)
 
--- what is shown of a step of which a command can't stand
+-- what is shown of a step with an invalid command
 pub shows_fault : {S : Type 0} (A : Type 0) (fault : ScriptFault) (program : Program S) (context : ActivationContext) (now : Progress S) (job : Job) (given shown issued : List Command) (settled : Settled) (place : ℕ) → given ≡ program.gives now.state job
     → settled ≡ now.script.settled → issued ≡ now.script.issued → shown ≡ take place given → StopsBy fault context settled issued given place → Shows {A = A} (Err fault) program context now job shown
 shows_fault A (Workflow fault) program context now job given shown issued settled place gave settles issues is stop = (
@@ -51,7 +51,7 @@ shows_fault A (Workflow fault) program context now job given shown issued settle
 )
 shows_fault A OutOfMemory program context now job given shown issued settled place gave settles issues is stop = tt
 
--- a step of which a command can't stand is one more, whatever is shown of it
+-- a step with an invalid command is one more, whatever is shown of it
 pub adds_fault : {S : Type 0} (A : Type 0) (fault : ScriptFault) (program : Program S) (context : ActivationContext) (now : Progress S) (job : Job) (before : List Step) (given issued : List Command) (settled : Settled) (place : ℕ) → given ≡ program.gives now.state job
     → settled ≡ now.script.settled → issued ≡ now.script.issued → StopsBy fault context settled issued given place → AddsOneStep {A = A} (Err fault) program context now job before
 adds_fault A (Workflow fault) program context now job before given issued settled place gave settles issues stop =

@@ -38,7 +38,7 @@ both_ways : {A : Type 0} (one : A) (found : Option A) → found ≡ Some one →
 both_ways one found some none = cc
 
 module _ {S : Type 0} (program : Program S) (events : List Event) (start : S) (settled : Settled) where
-  -- the tasks so far, of which none has a fault
+  -- the tasks so far, none of which has a fault
   pub record AreDone (detail : Detail) (kept : List ExplainedTask) (last : ℕ) (state : S) (versions : Settled) : Type 0 where
     pub done : List ExplainedTask
     pub keeps : Keeps detail kept done
@@ -87,7 +87,7 @@ module _ {S : Type 0} (program : Program S) (lawful : IsLawful program) (events 
         same = walk_ok program events last number current at.0 n at.1 ∙ reached.same;
       }
 
-  -- a task more, of which no fault is found
+  -- one more task, without a fault
   pub done_more : (detail : Detail) (kept more : List ExplainedTask) (one : Option ExplainedTask) (last number : ℕ) (state next : S) (versions leaves : Settled) (task : ExplainedTask) → more ≡ kept ++ option_to_list one → AreDone program events start settled detail kept last state versions
       → cuts (drop last events) ≡ number ∷ cuts (drop number events) → IsTask program events last number state versions task → Keeps detail one (Some task) → None ≡ task_fault events (context_after events last number) versions number task.steps → None ≡ difference_at task.ending
       → LeavesTask program state versions task next leaves → AreDone program events start settled detail more number next leaves

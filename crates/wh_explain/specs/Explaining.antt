@@ -1,4 +1,4 @@
--- What is explained of the tasks of a history.
+-- The explanation of the tasks of a history.
 use Rattle.std.specs.Prelude.{◌≡◌, ℕ, Bool, true, false, List, [], ◌∷◌, Option, Some, None, Result, Ok, Err, if◌then◌else◌}
 use Rattle.std.specs.List.{list_any}
 use Rattle.wh_events.specs.declared.event.Event.{Event}
@@ -22,32 +22,32 @@ use Rattle.wh_explain.specs.declared.explanation.ExplainedTask.{ExplainedTask}
 use Rattle.wh_explain.specs.Numbers.{numbers_at}
 use Rattle.wh_explain.specs.Pairings.{pairings, differs}
 
--- how a task ends that sends this: it is not recorded yet, or what is sent stands beside the record
+-- how a task ends that sends these commands: it is not recorded yet, or the commands are paired with the record
 abbrev pub sent_ending : List Event → List Command → Option (List Event) → Ending
 sent_ending events sent None = Live sent
 sent_ending events sent (Some recorded) = Recorded (pairings events sent recorded)
 
--- the ending, unless a command can't stand
+-- the ending, or `Refused` if a command is invalid
 abbrev pub unless_refused : Option WorkflowFault → Ending → Ending
 unless_refused None ending = ending
 unless_refused (Some fault) ending = Refused
 
--- how a task of these steps ends: the last command can't stand, or what is sent of the commands of
--- the steps is not recorded yet or stands beside the record
+-- how a task of these steps ends: the last command is invalid, or what is sent of the commands of the steps is not
+-- recorded yet or is paired with the record
 abbrev pub ending_of : List Event → ActivationContext → Settled → List Step → Ending
 ending_of events context settled steps =
     let sent = reduced context (issued_in context settled steps) in
     unless_refused (fault_in context settled [] steps) (sent_ending events sent context.recorded)
 
--- a command is refused, or what is sent differs from what is recorded
+-- no task follows: a command is invalid, or the commands that are sent differ from the record
 abbrev pub stops : Ending → Bool
 stops Refused = true
 stops (Live _) = false
 stops (Recorded pairings) = list_any differs pairings
 
 module _ {S : Type 0} where
-  -- what is explained of a task that is given these jobs, by events of these numbers: its number, these, the
-  -- activation's script, from a state and settled versions, and how that ends
+  -- the explanation of a task that is given these jobs by events of these numbers: its number, the numbers of these
+  -- events, the longest script of the activation, from a state and settled versions, and how the task ends
   pub record IsTaskAt (program : Program S) (events : List Event) (context : ActivationContext) (jobs : List Job)
       (numbers : List ℕ) (at : ℕ) (state : S) (settled : Settled) (task : ExplainedTask) : Type 0 where
     pub number : task.at ≡ at
@@ -55,15 +55,14 @@ module _ {S : Type 0} where
     pub steps : IsLongest program context jobs state settled task.steps
     pub ending : task.ending ≡ ending_of events context settled task.steps
 
-  -- what is explained of the task at the cut of a number of a history, where the cut before has the
-  -- other number
+  -- the explanation of the task at the cut `number` of a history; `last` is the number of the cut before
   abbrev pub IsTask : Program S → List Event → (last number : ℕ) → S → Settled → ExplainedTask → Type 0
   IsTask program events last number state settled task =
       IsTaskAt program events (context_after events last number)
       (jobs_at events last number) (numbers_at events last number) number state settled task
 
-  -- what is explained of the cuts of these numbers after the last one: each of them once, in
-  -- order, in what the steps before it leave, up to the first that stops
+  -- the explanations of the cuts of these numbers, which come after the cut `last`: each of them once, in order, from
+  -- what the steps before it leave, up to the first that stops
   pub data AreTasks (program : Program S) (events : List Event) :
       ℕ → List ℕ → S → Settled → List ExplainedTask → Type 0 where
     all : (last : ℕ) (state : S) (settled : Settled) → AreTasks program events last [] state settled []
@@ -77,37 +76,36 @@ module _ {S : Type 0} where
         (settled_after settled task.steps) tasks
         → AreTasks program events last (number ∷ rest) state settled (task ∷ tasks)
 
-  -- where there is code for the workflow type
+  -- the explanations of a history's tasks, or none if the workflow type is not registered
   abbrev pub AreTasksIf : Bool → Program S → List Event → List ExplainedTask → Type 0
   AreTasksIf true program events tasks =
       AreTasks program events 0 (cuts events) (program.initial (workflow_of events)) [] tasks
   AreTasksIf false program events tasks = tasks ≡ []
 
-  -- where the events are in place
+  -- the explanations of a history's tasks, or none if its events are not in place or its type is not registered
   abbrev pub AreTasksPlaced : Result (List Event) Fault → Program S → List ExplainedTask → Type 0
   AreTasksPlaced (Err fault) program tasks = tasks ≡ []
   AreTasksPlaced (Ok events) program tasks = AreTasksIf (program.knows (workflow_of events)) program events tasks
 
-  -- what is explained of a history: its tasks, or none where an event is not in place or where
-  -- there is no code for its workflow type
+  -- the explanation of a history: its tasks, or none if an event is not in place or its workflow type is not registered
   abbrev pub AreTasksOf : Program S → List Event → List ExplainedTask → Type 0
   AreTasksOf program events tasks = AreTasksPlaced (in_place (history_fault events) events) program tasks
 
-  -- what is explained of a file: the tasks of its history, or none where it can't be read
+  -- the explanation of a file: the tasks of its history, or none if it can't be read
   abbrev pub AreTasksIn : Program S → Result (List Event) ReadFault → List ExplainedTask → Type 0
   AreTasksIn program (Ok events) tasks = AreTasksOf program events tasks
   AreTasksIn program (Err fault) tasks = tasks ≡ []
 
-  -- the workflow type of events in place, unless there is code for it
+  -- the workflow type of events in place, if it is not registered
   abbrev pub unknown_placed : Program S → Result (List Event) Fault → Option (List ℕ)
   unknown_placed program (Err fault) = None
   unknown_placed program (Ok events) = if program.knows (workflow_of events) then None else Some (workflow_of events)
 
-  -- the workflow type of a history in place, where there is no code for it
+  -- the workflow type of a history in place, if it is not registered
   abbrev pub unknown_of : Program S → List Event → Option (List ℕ)
   unknown_of program events = unknown_placed program (in_place (history_fault events) events)
 
-  -- that of the history of a file, if it can be read
+  -- the workflow type of the history of a file, if it can be read and is in place, and the type is not registered
   abbrev pub unknown_in : Program S → Result (List Event) ReadFault → Option (List ℕ)
   unknown_in program (Ok events) = unknown_of program events
   unknown_in program (Err fault) = None

@@ -1,4 +1,4 @@
--- What holds of every explanation.
+-- What holds for every explanation.
 use Rattle.std.specs.Prelude.{◌≡◌, ℕ, true, false, List, [], ◌∷◌, ◌++◌, Some, None, Result, Ok, Err}
 use Rattle.std.specs.List.{list_any}
 use Rattle.wh_events.specs.declared.event.Event.{Event}
@@ -14,22 +14,21 @@ use Rattle.wh_explain.specs.declared.explanation.ExplainedTask.{ExplainedTask}
 use Rattle.wh_explain.specs.Pairings.{difference_from}
 use Rattle.wh_explain.specs.Explaining.{stops, AreTasksOf}
 
--- the last of the tasks is that of the number, and a command of it is refused
+-- the last of the tasks has this number, and one of its commands is invalid
 abbrev pub EndsRefused : ℕ → List ExplainedTask → Type 0
 EndsRefused at tasks =
     (front : List ExplainedTask) × (task : ExplainedTask) × (tasks ≡ front ++ task ∷ []) × (task.at ≡ at)
     × (task.ending ≡ Refused)
 
--- the last of the tasks is that of the number, and the first difference that it shows between what is
--- sent and what is recorded is the mismatch
+-- the last of the tasks has this number, and the first difference that it shows between the commands that are sent and
+-- the record is the mismatch
 abbrev pub EndsDifferent : ℕ → Difference → List ExplainedTask → Type 0
 EndsDifferent at mismatch tasks =
     (front : List ExplainedTask) × (task : ExplainedTask) × (pairings : List Pairing) × (tasks ≡ front ++ task ∷ [])
     × (task.at ≡ at) × (task.ending ≡ Recorded pairings) × (difference_from 1 pairings ≡ Some mismatch)
 
 module _ {S : Type 0} where
-  -- the tasks end as the replay does: none stops where it has no fault, and else the last one at
-  -- the fault
+  -- the tasks end as the replay does: if it has no fault, none of them stops, and else the last one stops at the fault
   abbrev pub EndAs : Result (ReplayResult S) Fault → List ExplainedTask → Type 0
   EndAs (Ok left) tasks = list_any (λ task. stops task.ending) tasks ≡ false
   EndAs (Err (Workflow at fault)) tasks = EndsRefused at tasks
@@ -37,14 +36,13 @@ module _ {S : Type 0} where
   EndAs (Err (Place at fault)) tasks = ⊥
   EndAs (Err NotATask) tasks = ⊥
 
-  -- a history has but one explanation
+  -- a history has only one explanation
   abbrev pub OneExplains : Program S → Type 0
   OneExplains program =
       (events : List Event) (tasks other : List ExplainedTask)
       → AreTasksOf program events tasks → AreTasksOf program events other → tasks ≡ other
 
-  -- the explanation of a history in place, for whose workflow type there is code, ends as its
-  -- replay does
+  -- the explanation of a history in place whose workflow type is registered ends as its replay does
   abbrev pub EndsAsReplay : Program S → Type 0
   EndsAsReplay program =
       (events : List Event) (tasks : List ExplainedTask)

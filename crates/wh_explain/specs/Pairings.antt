@@ -1,4 +1,4 @@
--- What is sent beside what is recorded, up to the first difference.
+-- The commands that are sent beside the recorded events, up to the first difference.
 use Rattle.std.specs.Prelude.{ℕ, ◌+◌, Bool, true, false, List, [], ◌∷◌, Option, Some, None, if◌then◌else◌}
 use Rattle.wh_events.specs.declared.event.Event.{Event}
 use Rattle.wh_events.specs.Kinds.{Role, role_of}
@@ -30,8 +30,8 @@ pairing_of history command event =
     let recorded = recorded_event history event in
     if names history command event.body then Alike command recorded else Different command recorded
 
--- each command beside the event in its place, up to the first that are not named alike, or to the
--- first that is alone
+-- each command beside the event in its place, up to the first pair that doesn't match, or to the first command or event
+-- that is alone
 abbrev pub pairings : List Event → List Command → List Event → List Pairing
 pairings history [] [] = []
 pairings history [] (event ∷ _) = CommandMissing (recorded_event history event) ∷ []
@@ -40,12 +40,12 @@ pairings history (command ∷ commands) (event ∷ events) =
     pairing_of history command event
     ∷ (if names history command event.body then pairings history commands events else [])
 
--- what is sent differs from what is recorded
+-- the command differs from the record
 abbrev pub differs : Pairing → Bool
 differs (Alike _ _) = false
 differs _ = true
 
--- the first difference among pairs, where the command of the first pair has this place
+-- the first difference among pairings; the command of the first pairing has the place `index`
 abbrev pub difference_from : ℕ → List Pairing → Option Mismatch
 difference_from index [] = None
 difference_from index (Alike _ _ ∷ rest) = difference_from (index + 1) rest

@@ -1,4 +1,4 @@
--- What no contract of a public item cites: only those of private functions, and what types keep over private fields.
+-- Definitions that only contracts of private functions and invariants over private fields cite.
 pub mod Explaining
 pub mod Stepping
 pub mod Tasks

@@ -1,4 +1,4 @@
--- What is explained of a file by what was read of it.
+-- The explanation of a file by the result of reading it.
 use Rattle.std.specs.Prelude.{◌≡◌, ◌≤◌, ℕ, List, length, Result, IfErr, Vec}
 use Rattle.std.specs.declared.alloc.Global.{Global}
 use Rattle.wh_events.specs.declared.event.Event.{Event}
@@ -13,13 +13,13 @@ use Rattle.wh_explain.specs.declared.findings.Finding.{Finding}
 use Rattle.wh_explain.specs.Differences.{last_difference}
 use Rattle.wh_explain.specs.Explaining.{AreTasksIn, unknown_in}
 
--- what reading the bytes of a file gave: its history, or the first fault, or that there was no memory, which is not said
--- of a file that is too long
+-- the result of reading the bytes of a file: its history, the first fault, or that there was no memory, which is never
+-- the result for a file that is too long
 pub record IsReadOf (bytes : List ℕ) (read : Result (Vec Event Global) ReadFault) : Type 0 where
   pub exact : Gives (λ events. events.items) read (history bytes)
   pub memory : IfErr read (λ fault. fault ≡ OutOfMemory → length bytes ≤ longest)
 
--- what the replay of a file finds, and its tasks: its verdict, the workflow type that there is no code for, and the
+-- what the replay of a file finds, and its tasks: its verdict, the workflow type if it is not registered, and the
 -- difference that the tasks end in
 pub record AreExplained {S : Type 0} (program : Program S) (bytes : List ℕ) (finding : Finding)
     (tasks : List ExplainedTask) : Type 0 where

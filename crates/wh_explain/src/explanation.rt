@@ -1,22 +1,22 @@
-//! What an explanation holds.
+//! Explanations of histories, and their parts.
 
 use std::marker::Model;
 use wh_events::{EventKind, EventNo, Items, OutOfMemory, Text};
 use wh_tester::Line;
 use wh_workflow::{Command, Job};
 
-/// How much is kept of a replay.
+/// How much of a replay is kept.
 #[derive(Clone, Copy)]
 pub(crate) enum Detail {
-    /// The verdict, and what it stops at.
+    /// The verdict, and the difference that the replay stops at.
     Verdict,
     /// Each task with the steps of its activation.
     Steps,
 }
 
-/// One step of an activation: a job, and the commands that the workflow gave at it; where one of
-/// them can't stand, those up to and with that one. Contracts see it as a step of the activation's
-/// script.
+/// One step of an activation: a job, and the commands that the workflow gave at it. If one of them
+/// is invalid, the step has the commands up to and with that one. Contracts see it as a step of the
+/// activation's script.
 #[derive(Drop)]
 pub struct Step {
     job: Job,
@@ -34,21 +34,21 @@ impl Model for Step {
 impl Step {
     ghost use Rattle.std.specs.Prelude.{◌≡◌};
 
-    /// The step of a job and the commands given at it.
+    /// Returns the step of a job and the commands given at it.
     pub(crate) fn new(job: Job, commands: Vec<Command>) -> Self
         ensures { result ≡ record { job = job; commands = commands.items } }
     {
         Step { job, commands }
     }
 
-    /// The job that the workflow was given.
+    /// Returns the job that the workflow was given.
     pub fn job(&self) -> &Job
         ensures { result.now ≡ self.now.job }
     {
         &self.job
     }
 
-    /// What it gave.
+    /// Returns the commands that the workflow gave.
     pub fn commands(&self) -> &[Command]
         ensures { result.now ≡ self.now.commands }
     {
@@ -56,42 +56,42 @@ impl Step {
     }
 }
 
-/// An event of the record, with what is shown of it.
+/// A recorded event, with what is shown of it.
 #[derive(Drop)]
 pub struct RecordedEvent {
     /// Its number.
     pub number: EventNo,
     /// What happened.
     pub kind: EventKind,
-    /// The id of what it refers to by a number; empty where it refers to nothing so.
+    /// The id of what it refers to by a number, or nothing if it refers to nothing so.
     pub id: Text,
 }
 
-/// A command that is sent and the event of the record in its place.
+/// A command that is sent and the recorded event in its place.
 #[derive(Drop)]
 pub enum Pairing {
-    /// They are named alike.
+    /// The event matches the command.
     Alike {
-        /// What is sent.
+        /// The command that is sent.
         command: Command,
-        /// What is recorded.
+        /// The recorded event.
         event: RecordedEvent,
     },
-    /// They are not.
+    /// The event doesn't match the command.
     Different {
-        /// What is sent.
+        /// The command that is sent.
         command: Command,
-        /// What is recorded.
+        /// The recorded event.
         event: RecordedEvent,
     },
     /// No command is left for the event.
     CommandMissing {
-        /// What is recorded.
+        /// The recorded event.
         event: RecordedEvent,
     },
     /// No event is left for the command.
     CommandExtra {
-        /// What is sent.
+        /// The command that is sent.
         command: Command,
     },
 }
@@ -99,7 +99,7 @@ pub enum Pairing {
 impl RecordedEvent {
     ghost use Rattle.std.specs.Prelude.{◌≡◌, IfOk};
 
-    /// A copy with the same content. `OutOfMemory` where there was no memory for it.
+    /// Returns an equal event, or `OutOfMemory` if there was no memory for the copy.
     fn try_copy(&self) -> Result<RecordedEvent, OutOfMemory>
         ensures { IfOk result (λ copy. copy ≡ self.now) }
     {
@@ -115,7 +115,7 @@ impl RecordedEvent {
 impl Pairing {
     ghost use Rattle.std.specs.Prelude.{◌≡◌, IfOk};
 
-    /// A copy with the same content. `OutOfMemory` where there was no memory for it.
+    /// Returns an equal pairing, or `OutOfMemory` if there was no memory for the copy.
     pub fn try_copy(&self) -> Result<Pairing, OutOfMemory>
         ensures { IfOk result (λ copy. copy ≡ self.now) }
     {
@@ -147,27 +147,27 @@ impl Pairing {
 /// How a task ends.
 #[derive(Drop)]
 pub enum Ending {
-    /// The last command of the last step can't stand.
+    /// The last command of the last step is invalid.
     Refused,
     /// The task is not recorded yet.
     Live {
-        /// What is sent.
+        /// The commands that are sent.
         sent: Items<Command>,
     },
     /// The task is recorded.
     Recorded {
-        /// What is sent beside what is recorded, up to the first difference.
+        /// The commands that are sent beside the recorded events, up to the first difference.
         pairings: Items<Pairing>,
     },
 }
 
-/// What is explained of one task.
+/// The explanation of one task.
 #[derive(Drop)]
 pub struct ExplainedTask {
     /// The number of its cut.
     pub at: EventNo,
-    /// The numbers of the events that gave its jobs, in the order of the steps, but for those whose
-    /// job answers an ask for a version.
+    /// The numbers of the events that gave its jobs, in the order of the steps. No event gave a job
+    /// that is the answer to a request for a version.
     pub given: Items<EventNo>,
     /// The steps of its activation.
     pub steps: Items<Step>,
@@ -175,10 +175,10 @@ pub struct ExplainedTask {
     pub ending: Ending,
 }
 
-/// What is explained of a file.
+/// The explanation of a file.
 #[derive(Drop)]
 pub struct Explanation {
-    /// The workflow type of its history, where there is no code for it.
+    /// The workflow type of its history, if it is not registered.
     pub unknown: Option<Text>,
     /// Its tasks in their order, up to the first that has a fault.
     pub tasks: Items<ExplainedTask>,

@@ -1,5 +1,5 @@
-//! What the replay of a history file finds: its verdict, the workflow type that there is no code for,
-//! and what is sent and what is recorded where they differ.
+//! What the replay of a history file finds: its verdict, the workflow type if it is not registered,
+//! and the command and the event that differ.
 ghost use Rattle.std.specs.Prelude.{◌≡◌, ◌≢◌, ◌≤◌, ℕ, List, [], None, Some, Ok, length, IfOk, IfErr, IfSome, IsSome, string_bytes};
 ghost use Rattle.wh_json.specs.Events.{history, longest};
 ghost use Rattle.wh_json.specs.declared.fault.ReadFault.TheVariants.{OutOfMemory as ReadMemory};
@@ -26,22 +26,22 @@ use wh_workflow::{Workflow, WorkflowFault};
 /// What the replay of a history file finds.
 #[derive(Drop)]
 pub struct Finding {
-    /// What came of the file. Its fault, if it has one, says the place.
+    /// The verdict on the file. Its fault, if there is one, has the place.
     pub verdict: Verdict,
-    /// The workflow type of its history, where there is no code for it.
+    /// The workflow type of the history, if it is not registered.
     pub unknown: Option<Text>,
-    /// What is sent and what is recorded, where the replay stops since they differ.
+    /// The command and the event that differ, if the replay stops at a difference.
     pub difference: Option<Pairing>,
 }
 
-/// What is found of a file, and its tasks where they are kept.
+/// What replay finds of a file, with its tasks, if they are kept.
 #[derive(Drop)]
 struct Findings {
     finding: Finding,
     tasks: Vec<ExplainedTask>,
 }
 
-/// Nothing is found but a verdict.
+/// Returns findings with nothing but a verdict.
 fn judged(alloc: Global, verdict: Verdict) -> Findings
     ensures finding { result.finding ≡ record { verdict = verdict; unknown = None; difference = None } }
     ensures tasks { result.tasks.items ≡ [] }
@@ -56,7 +56,7 @@ fn judged(alloc: Global, verdict: Verdict) -> Findings
     }
 }
 
-/// A workflow type is found, for which there is no code.
+/// Returns the findings of a history whose workflow type is not registered.
 fn no_code(alloc: Global, kind: &str) -> Result<Findings, OutOfMemory>
     ensures tasks { IfOk result (λ found. found.tasks.items ≡ []) }
     ensures unknown { IfOk result (λ found. found.finding.unknown ≡ Some kind.now) }
@@ -78,7 +78,7 @@ fn no_code(alloc: Global, kind: &str) -> Result<Findings, OutOfMemory>
     })
 }
 
-/// The verdict by which the tasks of a history end, and the difference that they stop at.
+/// Returns the verdict on the tasks of a history, and the difference that they stop at, if they do.
 fn ended(stop: Option<Stop>, checked: Checked) -> (Verdict, Option<Pairing>)
     ensures verdict { result.0 ≡ verdict_by (fault_of stop) checked }
     ensures difference { result.1 ≡ difference_in stop }
@@ -89,7 +89,7 @@ fn ended(stop: Option<Stop>, checked: Checked) -> (Verdict, Option<Pairing>)
     }
 }
 
-/// What is found of the tasks of a history.
+/// Returns the findings of a walk over the tasks of a history.
 fn walked(walk: Walk) -> Findings
     ensures tasks { result.tasks ≡ walk.tasks }
     ensures unknown { result.finding.unknown ≡ None }
@@ -112,8 +112,8 @@ fn walked(walk: Walk) -> Findings
     }
 }
 
-/// What is found of a history whose events are in place. There are no tasks where there is no code
-/// for its workflow type.
+/// Returns the findings of a history whose events are in place. There are no tasks if its workflow
+/// type is not registered.
 fn find_in_track<W: Workflow>(
     alloc: Global,
     detail: Detail,
@@ -129,8 +129,8 @@ fn find_in_track<W: Workflow>(
     Ok(walked(walk_tasks::<W>(alloc, detail, track, first)?))
 }
 
-/// What is found of a history. There are no tasks where its events are not in place, or where there
-/// is no code for its workflow type.
+/// Returns the findings of a history. There are no tasks if its events are not in place, or if its
+/// workflow type is not registered.
 fn find_in_events<W: Workflow>(
     alloc: Global,
     detail: Detail,
@@ -145,7 +145,7 @@ fn find_in_events<W: Workflow>(
     }
 }
 
-/// What is found of a file that can't be read, if there was memory to read it.
+/// Returns the findings of a file that can't be read, if there was memory to read it.
 fn unread(alloc: Global, fault: ReadFault) -> Result<Findings, OutOfMemory>
     ensures finding { IfOk result (λ found.
         found.finding ≡ record { verdict = Verdict.Unreadable fault; unknown = None; difference = None }) }
@@ -159,7 +159,8 @@ fn unread(alloc: Global, fault: ReadFault) -> Result<Findings, OutOfMemory>
     }
 }
 
-/// What is found of a file by what was read of it. There are no tasks where it can't be read.
+/// Returns the findings of a file by the result of reading it. There are no tasks if it can't be
+/// read.
 #[tactic(auto, unfolding(wh_tester::specs::Verdicts::verdict_on), using(wh_tester::proofs::Reading::read_within))]
 fn find_in_read<W: Workflow>(
     alloc: Global,
@@ -177,8 +178,8 @@ fn find_in_read<W: Workflow>(
     }
 }
 
-/// What is found of a file, which is parsed once and whose history is replayed once. There are no
-/// tasks where it can't be read.
+/// Returns the findings of a file. Parses it once, and replays its history once. There are no tasks
+/// if it can't be read.
 fn find_in_bytes<W: Workflow>(
     alloc: Global,
     detail: Detail,
@@ -192,13 +193,13 @@ fn find_in_bytes<W: Workflow>(
     find_in_read::<W>(alloc, detail, read)
 }
 
-/// Replays a history file with the code of `W`, and gives what is found: the verdict of
-/// `wh_tester::verdict`, the workflow type, where there is no code for it, and what is sent and what
-/// is recorded, where they differ, which is the last of the pairings that `explain` has of its last
-/// task. The file is parsed once and its history is replayed once, whatever comes of it.
+/// Replays a history file with the code of `W`, and returns what it finds: the verdict of
+/// `wh_tester::verdict`, the workflow type if it is not registered, and the command and the event
+/// that differ, if they do. These are the last pairing of the last task that `explain` returns. The
+/// file is parsed once, and its history is replayed at most once.
 ///
-/// `Verdict::OutOfMemory` can come in place of every verdict but that of a file that is too long;
-/// nothing else is found then.
+/// `Verdict::OutOfMemory` can replace any verdict but that of a file that is too long. Nothing else
+/// is found then.
 pub fn check_file<W: Workflow>(alloc: Global, bytes: &[u8]) -> Finding
     ensures verdict { IsVerdict W.program bytes.now result.verdict }
     ensures unknown { result.verdict ≢ Verdict.OutOfMemory → result.unknown ≡ unknown_in W.program (history bytes.now) }
@@ -217,10 +218,9 @@ pub fn check_file<W: Workflow>(alloc: Global, bytes: &[u8]) -> Finding
     }
 }
 
-/// Replays a history file with the code of `W`, by the history that was read from it or why there is
-/// none, and gives what `check_file` finds of it, and the tasks that `explain` has of it. The history
-/// is replayed once. `OutOfMemory` where the allocator refused a growth, or did so when the file was
-/// read.
+/// Replays a history file with the code of `W`, from the result of reading it. Returns what
+/// `check_file` finds, and the tasks that `explain` returns. The history is replayed once. Returns
+/// `OutOfMemory` if an allocation was refused, now or when the file was read.
 pub fn explain_read<W: Workflow>(
     alloc: Global,
     read: Result<Vec<Event>, ReadFault>,
@@ -233,8 +233,8 @@ pub fn explain_read<W: Workflow>(
     Ok((finding, tasks))
 }
 
-/// The workflow type of a history whose events are in place, if `W` has no code for it, as `explain`
-/// names it. `OutOfMemory` where there was no memory for the copy of its name.
+/// Returns the workflow type of a history whose events are in place, if `W` does not handle it, as
+/// `explain` names it. Returns `OutOfMemory` if there was no memory for the copy of its name.
 pub fn unknown_type<W: Workflow>(alloc: Global, track: &Track) -> Result<Option<Text>, OutOfMemory>
     ensures { IfOk result (λ kind. kind ≡ unknown_placed W.program (Ok track.now)) }
 {
@@ -245,14 +245,15 @@ pub fn unknown_type<W: Workflow>(alloc: Global, track: &Track) -> Result<Option<
     Ok(Some(Text::new(String::from_str(alloc, kind)?)))
 }
 
-/// Explains the replay of a history file, given by name and bytes, with the code of `W`: its tasks
-/// in their order up to the first that has a fault, each with the jobs that the workflow was given,
-/// what it gave, and what the record has beside what is sent. There are no tasks where the file
-/// can't be read, where an event is not in place, and where there is no code for the workflow type,
-/// which is named. The file is parsed once and its history is replayed once.
+/// Explains the replay of a history file, given by name and bytes, with the code of `W`. Returns
+/// its tasks in their order, up to the first that has a fault, each with the jobs that the workflow
+/// was given, the commands that it gave, and the recorded events beside those that are sent. There
+/// are no tasks if the file can't be read, if an event is not in place, or if the workflow type is
+/// not registered. The explanation then has that type. The file is parsed once, and its history is
+/// replayed at most once.
 ///
 /// The line is that of the report of replay: the name and the verdict of `wh_tester::verdict`.
-/// `OutOfMemory` where the allocator refused a growth, never for a file that is too long.
+/// Returns `OutOfMemory` if an allocation was refused, but never for a file that is too long.
 pub fn explain<W: Workflow>(
     alloc: Global,
     name: String,

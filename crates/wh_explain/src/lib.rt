@@ -1,5 +1,5 @@
-//! Explains the replay of one history: the jobs that the workflow was given, what it gave, and what
-//! the record has beside it, up to the first difference.
+//! Explains the replay of one history: the jobs that the workflow was given, the commands that it
+//! gave, and the recorded events beside them, up to the first difference.
 #![tactic(auto)]
 
 mod explanation;

@@ -13,7 +13,7 @@ use wh_events::{Event, EventKind, EventNo, OutOfMemory};
 use wh_replay::Cut;
 use wh_workflow::Job;
 
-/// Whether an event of the kind gives the job that the run starts.
+/// Whether an event of the kind gives the job that starts the run.
 fn is_start(kind: &EventKind) -> bool
     ensures { (n : ℕ) → map (λ _. n) (start_job kind.now) ≡ (if result then n ∷ [] else []) }
 {
@@ -27,7 +27,7 @@ fn is_signal(kind: &EventKind) -> bool
     matches!(kind, EventKind::WorkflowExecutionSignaled { .. })
 }
 
-/// Whether an event of the kind gives another job.
+/// Whether an event of the kind gives any other job.
 fn is_outside(kind: &EventKind) -> bool
     ensures { (n : ℕ) → map (λ _. n) (outside_job [] kind.now) ≡ (if result then n ∷ [] else []) }
 {
@@ -64,8 +64,8 @@ fn push_if(numbers: &mut Vec<EventNo>, gives: bool, number: EventNo) -> Result<(
     Ok(())
 }
 
-/// The numbers of the events that give the jobs of a cut, where the events are those since the cut
-/// before.
+/// Lists the numbers of the events that give the jobs of a cut. `between` has the events since the
+/// cut before.
 fn numbers_of(alloc: Global, between: &[Event], cut: &Event) -> Result<Vec<EventNo>, OutOfMemory>
     ensures { IfOk result (λ numbers. numbers.items ≡ numbers_of between.now cut.now) }
 {
@@ -83,7 +83,7 @@ fn numbers_of(alloc: Global, between: &[Event], cut: &Event) -> Result<Vec<Event
     Ok(numbers)
 }
 
-/// The numbers of the events that give the jobs of a cut.
+/// Lists the numbers of the events that give the jobs of a cut.
 fn numbers_at(alloc: Global, cut: &Cut) -> Result<Vec<EventNo>, OutOfMemory>
     requires { IsWithin cut.now }
     ensures { let numbers = numbers_at cut.now.track.now cut.now.previous cut.now.number in
@@ -99,7 +99,7 @@ fn numbers_at(alloc: Global, cut: &Cut) -> Result<Vec<EventNo>, OutOfMemory>
     )
 }
 
-/// The numbers of the events that give the jobs of a cut, where they are kept.
+/// Lists the numbers of the events that give the jobs of a cut, if they are kept, and else nothing.
 pub(crate) fn numbers_kept(
     alloc: Global,
     detail: Detail,
@@ -115,16 +115,16 @@ pub(crate) fn numbers_kept(
     }
 }
 
-/// Whether the job answers an ask for a version, so that no event gave it.
+/// Whether the job is the answer to a request for a version, so that no event gave it.
 fn is_answer(job: &Job) -> bool
     ensures { result ≡ is_answer job.now }
 {
     matches!(job, Job::Version { .. })
 }
 
-/// The number of the event that gave a job, where `left` are the numbers for it and the jobs after it:
-/// at first those of a task (`ExplainedTask::given`), and then what `left_after` leaves. A version that
-/// answers an ask has none.
+/// Returns the number of the event that gave a job. `left` has the numbers for this job and the
+/// jobs after it: at first those of a task (`ExplainedTask::given`), and then those that
+/// `left_after` returns. The answer to a request for a version has no number.
 pub fn number_of(job: &Job, left: &[EventNo]) -> Option<EventNo>
     ensures { result ≡ number_of job.now left.now }
 {
@@ -135,7 +135,7 @@ pub fn number_of(job: &Job, left: &[EventNo]) -> Option<EventNo>
     }
 }
 
-/// The numbers that are left for the jobs after a job.
+/// Returns the numbers that are left for the jobs after a job.
 #[tactic(auto, using(std::proofs::lemmas::List::drop_min))]
 pub fn left_after<'n>(job: &Job, left: &'n [EventNo]) -> &'n [EventNo]
     ensures { result.now ≡ left_after job.now left.now }

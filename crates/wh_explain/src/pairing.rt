@@ -1,4 +1,4 @@
-//! What is sent beside what is recorded.
+//! Commands that are sent beside the recorded events.
 ghost use Rattle.std.specs.Prelude.{◌≡◌, ◌++◌, ◌∷◌, [], List, if◌then◌else◌, IfOk, OnOk, IsOkAnd};
 ghost use Rattle.wh_events.specs.declared.event.Event.{Event};
 ghost use Rattle.wh_events.specs.Cuts.{is_commanded, commanded};
@@ -10,7 +10,7 @@ use std::alloc::Global;
 use wh_events::{Class, Event, OutOfMemory, Role, Text, opened_id};
 use wh_workflow::Command;
 
-/// The id of what the event refers to by a number.
+/// Returns the id of what the event refers to by a number, or nothing if it refers to nothing so.
 fn referred_id<'a>(history: &'a [Event], event: &Event) -> &'a str
     ensures { result.now ≡ referred_id history.now event.now }
 {
@@ -20,7 +20,7 @@ fn referred_id<'a>(history: &'a [Event], event: &Event) -> &'a str
     }
 }
 
-/// A recorded event, with what is shown of it.
+/// Returns a recorded event, with what is shown of it.
 fn recorded_event(
     alloc: Global,
     history: &[Event],
@@ -36,7 +36,7 @@ fn recorded_event(
     })
 }
 
-/// A command and the event in its place, that are named alike or not.
+/// Pairs a command with the event in its place, which matches the command or not.
 fn paired(alike: bool, command: Command, event: RecordedEvent) -> Pairing
     ensures { result ≡ if alike then Alike command event else Different command event }
 {
@@ -47,7 +47,7 @@ fn paired(alike: bool, command: Command, event: RecordedEvent) -> Pairing
     }
 }
 
-/// A command and the event in its place.
+/// Pairs copies of a command and of the event in its place.
 fn pair(
     alloc: Global,
     history: &[Event],
@@ -67,7 +67,7 @@ fn pair(
     }
 }
 
-/// An event for which no command is left.
+/// Returns the pairing of an event for which no command is left.
 fn alone(alloc: Global, history: &[Event], event: &Event) -> Result<Pairing, OutOfMemory>
     ensures { IfOk result (λ pairing. pairing ≡ CommandMissing (recorded_event history.now event.now)) }
 {
@@ -76,7 +76,7 @@ fn alone(alloc: Global, history: &[Event], event: &Event) -> Result<Pairing, Out
     })
 }
 
-/// A command for which no event is left.
+/// Returns the pairing of a command for which no event is left.
 fn extra(command: &Command) -> Result<Pairing, OutOfMemory>
     ensures { IfOk result (λ pairing. pairing ≡ CommandExtra command.now) }
 {
@@ -85,7 +85,7 @@ fn extra(command: &Command) -> Result<Pairing, OutOfMemory>
     })
 }
 
-/// Adds a pairing to those paired, if there was memory for it.
+/// Adds a pairing to `paired`, if there was memory for it.
 fn add(pairing: Result<Pairing, OutOfMemory>, paired: &mut Vec<Pairing>) -> Result<(), OutOfMemory>
     ensures { OnOk result (IsOkAnd pairing (λ pairing. paired.new.items ≡ paired.old.items ++ pairing ∷ [])) }
 {
@@ -95,7 +95,7 @@ fn add(pairing: Result<Pairing, OutOfMemory>, paired: &mut Vec<Pairing>) -> Resu
     }
 }
 
-/// Adds the first of the commands for which no event is left, if there is one, to those paired.
+/// Adds the first of the commands for which no event is left, if there is one, to `paired`.
 fn add_extra(left: &[Command], paired: &mut Vec<Pairing>) -> Result<(), OutOfMemory>
     ensures { (history : List Event) →
         OnOk result (paired.new.items ≡ paired.old.items ++ pairings history left.now []) }
@@ -106,14 +106,15 @@ fn add_extra(left: &[Command], paired: &mut Vec<Pairing>) -> Result<(), OutOfMem
     }
 }
 
-/// Whether a command gave the event.
+/// Whether the event records a command.
 fn is_commanded(event: &Event) -> bool
     ensures { result ≡ is_commanded event.now }
 {
     matches!(event.class(), Class::Commanded)
 }
 
-/// Adds what is sent beside the commanded events, up to the first difference, to those paired.
+/// Adds the commands that are sent beside the events that record commands, up to the first
+/// difference, to `paired`.
 fn add_pairs(
     alloc: Global,
     history: &[Event],
@@ -142,7 +143,8 @@ fn add_pairs(
     add_extra(&sent[index..], paired)
 }
 
-/// What is sent beside the commanded events, up to the first difference.
+/// Pairs the commands that are sent with the events that record commands, up to the first
+/// difference.
 pub(crate) fn pair_up(
     alloc: Global,
     history: &[Event],
@@ -156,7 +158,7 @@ pub(crate) fn pair_up(
     Ok(paired)
 }
 
-/// Whether what is sent differs from what is recorded, in a pairing.
+/// Whether the command differs from the record in a pairing.
 pub fn differs(pairing: &Pairing) -> bool
     ensures { result ≡ differs pairing.now }
 {

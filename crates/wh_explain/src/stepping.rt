@@ -1,4 +1,4 @@
-//! The steps of an activation, each a job with what the workflow gives at it.
+//! The steps of an activation, each a job with the commands that the workflow gives at it.
 ghost use Rattle.std.specs.Prelude.{◌≡◌, List, [], None, IfOk, OnOk};
 ghost use Rattle.wh_activation.specs.Cutting.{jobs_at};
 ghost use Rattle.wh_workflow.specs.Activations.{turn};
@@ -14,8 +14,8 @@ use wh_match::ScriptFault;
 use wh_replay::{Activation, Cut, IssueFault, copy_commands};
 use wh_workflow::{Command, Job, Meter, Workflow, WorkflowFault};
 
-/// Steps the workflow by one job, and answers what it asks. The commands that it gives are shown;
-/// where one of them can't stand, those up to it.
+/// Steps the workflow by one job, and answers its request for a version, if it has one. Shows the
+/// commands that it gives. If one of them is invalid, shows those up to and with that one.
 fn step_shown<W: Workflow>(
     alloc: Global,
     cut: &Cut,
@@ -43,7 +43,8 @@ fn step_shown<W: Workflow>(
     }
 }
 
-/// Steps the workflow by one job, and answers what it asks. Nothing is kept of the step.
+/// Steps the workflow by one job, and answers its request for a version, if it has one. Keeps
+/// nothing of the step.
 fn take_step<W: Workflow>(
     alloc: Global,
     cut: &Cut,
@@ -66,7 +67,8 @@ fn take_step<W: Workflow>(
     }
 }
 
-/// Steps the workflow by one job, which is not needed any more, and answers what it asks.
+/// Steps the workflow by one job, drops the job, and answers the request for a version, if there is
+/// one. Keeps nothing of the step.
 fn take_job<W: Workflow>(
     alloc: Global,
     cut: &Cut,
@@ -87,7 +89,8 @@ fn take_job<W: Workflow>(
     answer
 }
 
-/// Steps the workflow by one job, adds the step to those before it, and answers what it asks.
+/// Steps the workflow by one job, adds the step to those before it, and answers the request for a
+/// version, if there is one.
 fn add_step<W: Workflow>(
     alloc: Global,
     cut: &Cut,
@@ -117,8 +120,8 @@ fn add_step<W: Workflow>(
     answer
 }
 
-/// Steps the workflow by one job, adds the step to those before it where steps are kept, and answers
-/// what it asks.
+/// Steps the workflow by one job, adds the step to those before it if steps are kept, and answers
+/// the request for a version, if there is one.
 fn step_by<W: Workflow>(
     alloc: Global,
     detail: Detail,
@@ -144,8 +147,8 @@ fn step_by<W: Workflow>(
     }
 }
 
-/// Steps the workflow by the jobs of a cut and by the versions that they lead to, up to the first
-/// step with a fault. The answer is the steps, where they are kept, and the fault.
+/// Steps the workflow by the jobs of a cut and by the versions that they ask for, up to the first
+/// step with a fault. Returns the steps, if they are kept, and the fault.
 pub(crate) fn step_all<W: Workflow>(
     alloc: Global,
     detail: Detail,

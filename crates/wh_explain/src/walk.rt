@@ -1,4 +1,4 @@
-//! The tasks of a history, each with the steps of its activation and with its record.
+//! Goes over the tasks of a history, each with the steps of its activation and with its record.
 ghost use Rattle.std.specs.Prelude.{◌≡◌, ◌++◌, None, Some, IfOk, OnOk, option_map, option_to_list};
 ghost use Rattle.wh_events.specs.Cuts.{commanded};
 ghost use Rattle.wh_activation.specs.Cutting.{jobs_at};
@@ -25,47 +25,47 @@ use wh_match::matches;
 use wh_replay::{Activation, Checked, Cut, Fault, ReplayState, Span, cut_after, sent_state};
 use wh_workflow::{Command, Mismatch, Workflow, WorkflowFault};
 
-/// Why no task follows one.
+/// Why no task follows a task.
 #[derive(Drop)]
 pub(crate) struct Stop {
-    /// Its fault.
+    /// The fault of the task.
     pub(crate) fault: Fault,
-    /// What is sent and what is recorded where they differ, if that is the fault.
+    /// The command and the event that differ, if that is the fault.
     pub(crate) difference: Option<Pairing>,
 }
 
 /// How a task ends.
 #[derive(Drop)]
 pub(crate) struct TaskEnd {
-    /// What is shown of that, where it is kept.
+    /// What is shown of the ending, if that is kept.
     pub(crate) ending: Option<Ending>,
-    /// Why no task follows, if so.
+    /// Why no task follows, if the task has a fault.
     pub(crate) stop: Option<Stop>,
 }
 
-/// What is found of a task.
+/// What replay finds of a task.
 #[derive(Drop)]
 pub(crate) struct TaskFinding<S> {
-    /// What is explained of it, where that is kept.
+    /// The explained task, if that is kept.
     pub(crate) task: Option<ExplainedTask>,
-    /// Why no task follows, if so.
+    /// Why no task follows, if the task has a fault.
     pub(crate) stop: Option<Stop>,
-    /// What it leaves.
+    /// What the task leaves.
     pub(crate) left: ReplayState<S>,
 }
 
-/// What is found of the tasks of a history.
+/// What replay finds of the tasks of a history.
 #[derive(Drop)]
 pub(crate) struct Walk {
-    /// What is explained of them, where that is kept, up to the first that has a fault.
+    /// The explained tasks up to the first that has a fault, if they are kept.
     pub(crate) tasks: Vec<ExplainedTask>,
-    /// Why not all of them could be stepped, if so.
+    /// Why the walk stopped, if a task has a fault.
     pub(crate) stop: Option<Stop>,
-    /// Their number, and whether the last is live, where all were stepped.
+    /// The number of tasks, and whether the last is live, if no task has a fault.
     pub(crate) checked: Checked,
 }
 
-/// What is found where a task has a fault.
+/// Returns the result of a walk in which a task has a fault.
 fn stopped(tasks: Vec<ExplainedTask>, stop: Stop) -> Walk
     ensures tasks { result.tasks.items ≡ tasks.items }
     ensures stop { result.stop ≡ Some stop }
@@ -80,7 +80,7 @@ fn stopped(tasks: Vec<ExplainedTask>, stop: Stop) -> Walk
     }
 }
 
-/// What is found where no task has a fault.
+/// Returns the result of a walk in which no task has a fault.
 fn all_stepped(tasks: Vec<ExplainedTask>, count: u64, live: bool) -> Walk
     ensures tasks { result.tasks.items ≡ tasks.items }
     ensures stop { result.stop ≡ None }
@@ -93,7 +93,7 @@ fn all_stepped(tasks: Vec<ExplainedTask>, count: u64, live: bool) -> Walk
     }
 }
 
-/// The first difference between what is sent and the record in a span.
+/// Returns the first difference between the commands that are sent and the record in a span.
 fn first_mismatch(cut: &Cut, sent: &[Command], span: Span) -> Option<Mismatch>
     requires { IsSpan cut.now.track.now span }
     ensures { result ≡ mismatch cut.now.track.now sent.now (commanded (span_events cut.now.track.now span)) }
@@ -101,7 +101,7 @@ fn first_mismatch(cut: &Cut, sent: &[Command], span: Span) -> Option<Mismatch>
     matches(sent, cut.track, span.from, span.to).err()
 }
 
-/// A copy of the last pairing, if what is sent differs there from what is recorded.
+/// Copies the last pairing, if the command differs from the record in it.
 fn last_differing(pairings: &[Pairing]) -> Result<Option<Pairing>, OutOfMemory>
     ensures { IfOk result (λ found. found ≡ if_differs (last_of pairings.now)) }
 {
@@ -115,7 +115,7 @@ fn last_differing(pairings: &[Pairing]) -> Result<Option<Pairing>, OutOfMemory>
     }
 }
 
-/// Whether nothing is to be shown of a recorded task, and others follow it.
+/// Whether nothing is shown of a recorded task, and others may follow it.
 fn is_passed(detail: Detail, mismatch: &Option<Mismatch>) -> bool
     ensures { result ≡ is_passed detail mismatch.now }
 {
@@ -125,14 +125,15 @@ fn is_passed(detail: Detail, mismatch: &Option<Mismatch>) -> bool
     }
 }
 
-/// Why no task follows the one of a number, with these pairings, if there is a mismatch.
+/// Returns why no task follows the one of a number, with these pairings, if there is a mismatch.
 fn stop_at(
     at: EventNo,
     mismatch: Option<Mismatch>,
     pairings: &[Pairing],
 ) -> Result<Option<Stop>, OutOfMemory>
     ensures fault { IfOk result (λ stop. fault_of stop ≡ mismatch_at at mismatch) }
-    ensures difference { IfOk result (λ stop. difference_in stop ≡ if_some mismatch (if_differs (last_of pairings.now))) }
+    ensures difference { IfOk result (λ stop.
+        difference_in stop ≡ if_some mismatch (if_differs (last_of pairings.now))) }
 {
     let Some(mismatch) = mismatch else {
         return Ok(None);
@@ -146,8 +147,8 @@ fn stop_at(
     }))
 }
 
-/// How a task ends that is recorded: what is sent stands beside the record. Where they differ, that
-/// is why no task follows.
+/// Returns how a recorded task ends: with the commands that are sent beside the record. If they
+/// differ, no task follows.
 fn end_recorded(
     alloc: Global,
     detail: Detail,
@@ -175,7 +176,7 @@ fn end_recorded(
     Ok(TaskEnd { ending, stop })
 }
 
-/// How a task ends that sends these commands, which can stand.
+/// Returns how a task ends that sends these commands, which are valid.
 fn end_sent(
     alloc: Global,
     detail: Detail,
@@ -197,7 +198,7 @@ fn end_sent(
     }
 }
 
-/// How a task ends of which a command can't stand.
+/// Returns how a task ends that has an invalid command.
 fn end_refused(at: EventNo, fault: WorkflowFault) -> TaskEnd
     ensures ending { result.ending ≡ Some Refused }
     ensures fault { fault_of result.stop ≡ Some (WorkflowFaulty at fault) }
@@ -215,7 +216,7 @@ fn end_refused(at: EventNo, fault: WorkflowFault) -> TaskEnd
     }
 }
 
-/// How a task ends that sends these commands, of which the last has the fault, if there is one.
+/// Returns how a task ends that sends these commands. The last one has the fault, if there is one.
 fn end_with(
     alloc: Global,
     detail: Detail,
@@ -233,7 +234,7 @@ fn end_with(
     }
 }
 
-/// How a task ends, and what it leaves.
+/// Returns how a task ends, and what it leaves.
 fn end_task<W: Workflow>(
     alloc: Global,
     detail: Detail,
@@ -264,7 +265,7 @@ fn end_task<W: Workflow>(
     }
 }
 
-/// What is explained of a task that ends so, where that is kept.
+/// Returns the explained task with this ending, if that is kept.
 fn task_with(
     at: EventNo,
     given: Vec<EventNo>,
@@ -284,8 +285,8 @@ fn task_with(
     }
 }
 
-/// What is found of the task of a cut after what the tasks before it left. What it leaves is known
-/// where no task stops there.
+/// Replays the task of a cut, from what the tasks before it left, and returns what it finds. The
+/// contract says what the task leaves only if it doesn't stop the walk.
 fn find_task<W: Workflow>(
     alloc: Global,
     detail: Detail,
@@ -295,7 +296,8 @@ fn find_task<W: Workflow>(
     requires within { IsWithin cut.now }
     ensures { let told = jobs_at cut.now.track.now cut.now.previous cut.now.number in
         let numbers = numbers_at cut.now.track.now cut.now.previous cut.now.number in
-        IfOk result (λ found. IsTaskFinding detail W.program cut.now.track.now (context_of cut.now) told numbers cut.now.number
+        IfOk result (λ found.
+        IsTaskFinding detail W.program cut.now.track.now (context_of cut.now) told numbers cut.now.number
         before.state before.versions found.task found.stop found.left.state found.left.versions) }
 {
     let given = numbers_kept(alloc, detail, cut)?;
@@ -308,7 +310,7 @@ fn find_task<W: Workflow>(
     Ok(TaskFinding { task, stop, left })
 }
 
-/// Adds a task to those before it, where it is kept.
+/// Adds a task to those before it, if it is kept.
 fn add_task(tasks: &mut Vec<ExplainedTask>, task: Option<ExplainedTask>) -> Result<(), OutOfMemory>
     ensures { OnOk result (tasks.new.items ≡ tasks.old.items ++ option_to_list task) }
 {

@@ -51,7 +51,7 @@ impl<W: Workflow, T: Ledger, C: Ledger, F: Ledger> Host<W, T, C, F> {
     /// Waits for the lock, and returns a guard of the state. Whatever any threads reserved, used,
     /// gave back, finished and evicted before, the state has these properties:
     /// - Each cached run has the machines, versions and unsent commands that replay of its held
-    ///   events from the first gives. So is its state, as `Run::state` says of every run.
+    ///   events from the first gives, and also the state, as `Run::state` says of every run.
     /// - Each slot is free, reserved for one poll, or held by one named task.
     /// - Each task taken is completed, failed or being processed.
     pub fn lock<R: Wait>(&self, rt: &R) -> MutexGuard<'_, HostState<W, T, C, F>>

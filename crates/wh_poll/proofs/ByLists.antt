@@ -1,4 +1,4 @@
--- What workers hand back by lists.
+-- What workers without observers return.
 use Rattle.std.proofs.Common.{◌≡◌, ℕ, ◌+◌, ◌≤◌, List, [], ◌∷◌, length, map, Option, refl, sym, ap, ◌∙◌, subst, arith}
 use Rattle.std.specs.List.{AllZip}
 use Rattle.wh_ledger.specs.declared.Shares.{Shares}
@@ -44,7 +44,7 @@ module _ {P S A : Type 0} (program : Program P) (fetches : S → MayFetch) (deli
   Worked = IsWorked program fetches delivers answers failures comes_from may (λ old turn new. new ≡ old)
 
 module _ (T C F : Type 0) {P S A : Type 0} (program : Program P) (fetches : S → MayFetch) (delivers : S → Delivers) (answers : S → Answers) (failures : S → ℕ) (comes_from : S → S → Type 0) (may : A → Answerable) where
-  -- what a worker hands back is what its turns led to
+  -- what a worker returns is what its turns led to
   pub work_of : (seat : Shares) (setup : WorkerSetup S A NoObserver) (end : Shares × WorkerEnd S A NoObserver) → Worked program fetches delivers answers failures comes_from may (seat, setup) end
       → IsWorkOf {T = T} {C = C} {F = F} program fetches delivers answers failures comes_from may seat setup.source setup.handler setup.turns (worker_of end)
   work_of seat setup end worked =

@@ -1,4 +1,4 @@
--- What turns of a worker have done.
+-- What the turns of a worker did.
 use Rattle.std.proofs.Common.{◌≡◌, ◌≤◌, inr, arith, ℕ, Bool, false, List, [], ◌∷◌, ◌++◌, Option, Some, None, ap, subst, sym, ◌∙◌, refl}
 use Rattle.std.specs.Prelude.{Result, Ok, Err, ◌+◌, length}
 use Rattle.std.proofs.lemmas.List.{length-append}
@@ -31,7 +31,7 @@ use Rattle.wh_poll.specs.declared.setup.WorkerEnd.{WorkerEnd}
 use Rattle.wh_poll.specs.Turns.{Turn, Hears, IsTurn, IsLedBy, GoesOn}
 use Rattle.wh_poll.specs.Ends.{IsEndOf}
 
--- what a task gives stays what it gives where the same is told
+-- replay of a task gives the same from a source that fetches the same histories
 StepsFrom-same : {S : Type 0} (program : Program S) (basis : Basis) (p q : MayFetch) (run : Option Held) (key : RunKey) (events : List Event) (stepped : Option Held) (fault : Option Fault) (hit : Bool) (before after : ℕ)
     → SameFetching p q → StepsFrom program basis q run key events stepped fault hit before after → StepsFrom program basis p run key events stepped fault hit before after
 StepsFrom-same program Own p q run key events stepped fault hit before after same s = s

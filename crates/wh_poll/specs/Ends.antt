@@ -1,4 +1,4 @@
--- What workers leave of their setups, and what is left of their host.
+-- What workers leave, by their setups, and what is left of their host.
 use Rattle.std.specs.Prelude.{◌≡◌, ℕ, ◌+◌, ◌≤◌, List, length, map, Vec, vec_len}
 use Rattle.std.specs.List.{AllZip, zip}
 use Rattle.std.specs.declared.alloc.Global.{Global}
@@ -13,11 +13,12 @@ use Rattle.wh_poll.specs.declared.setup.WorkerSetup.{WorkerSetup}
 use Rattle.wh_poll.specs.declared.setup.WorkerEnd.{WorkerEnd}
 use Rattle.wh_poll.specs.Turns.{Hears, IsLedBy}
 
-module _ {P S A O : Type 0} (program : Program P) (fetches : S → MayFetch) (delivers : S → Delivers) (answers : S → Answers)
-    (failures : S → ℕ) (comes_from : S → S → Type 0) (may : A → Answerable) (hears : Hears O) where
-  -- what a worker leaves of its setup, by what its seat had counted before: it took no more tasks than it had turns,
+module _ {P S A O : Type 0} (program : Program P) (fetches : S → MayFetch) (delivers : S → Delivers)
+    (answers : S → Answers) (failures : S → ℕ) (comes_from : S → S → Type 0) (may : A → Answerable)
+    (hears : Hears O) where
+  -- what a worker leaves, by its setup and what its seat had counted before: it took no more tasks than it had turns,
   -- its fault is one of its own source, its source and its handler keep what every call keeps, it sent no more answers
-  -- than it took tasks, and its turns led to it
+  -- than it took tasks, and its turns led to what it leaves
   pub record IsEndOf (counted : Shares) (setup : WorkerSetup S A O) (end : WorkerEnd S A O) : Type 0 where
     pub taken : end.counted.taken ≤ counted.taken + setup.turns
     pub fault : RoseIfFailed end.fault (failures setup.source) (failures end.source)
@@ -26,12 +27,12 @@ module _ {P S A O : Type 0} (program : Program P) (fetches : S → MayFetch) (de
     pub answered : length (answers end.source) + counted.taken ≤ length (answers setup.source) + end.counted.taken
     pub told : IsLedBy program fetches delivers answers failures comes_from may hears counted setup end
 
-  -- what a worker, a seat with a setup, has become: the seat, and what it leaves
+  -- a worker that started with a seat and a setup has ended: its seat now, and what it leaves
   pub record IsWorked (seated : Shares × WorkerSetup S A O) (ended : Shares × WorkerEnd S A O) : Type 0 where
     pub seat : ended.0 ≡ ended.1.counted
     pub end : IsEndOf seated.0 seated.1 ended.1
 
-  -- what workers leave of their setups, by what each seat had counted before
+  -- what workers leave, by their setups and what each seat had counted before
   abbrev pub AreEnds : List Shares → List (WorkerSetup S A O) → List (WorkerEnd S A O) → Type 0
   AreEnds seats setups ends = AllZip (λ seated end. IsEndOf seated.0 seated.1 end) (zip seats setups) ends
 

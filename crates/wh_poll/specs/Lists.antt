@@ -1,4 +1,4 @@
--- What workers hand back by lists.
+-- What workers without observers return, alone and in lists.
 use Rattle.std.specs.Prelude.{◌≡◌, ℕ, ◌+◌, ◌≤◌, List, [], ◌∷◌, Option}
 use Rattle.wh_workflow.specs.Law.{Program}
 use Rattle.wh_ledger.specs.declared.Shares.{Shares}
@@ -10,11 +10,11 @@ use Rattle.wh_poll.specs.declared.setup.WorkerEnd.{WorkerEnd}
 use Rattle.wh_poll.specs.declared.setup.WorkerSetup.{WorkerSetup}
 use Rattle.wh_poll.specs.Turns.{IsLedBy}
 
--- what a worker hands back, where only its seat, its source and its fault are asked for
+-- what a worker returns of what it leaves: its seat, its source and its fault
 abbrev pub worker_of : {T C F S A O : Type 0} → Shares × WorkerEnd S A O → Worker T C F S
 worker_of ended = record { seat = ended.0; source = ended.1.source; fault = ended.1.fault }
 
--- what a worker without an observer hands back: what its turns led to
+-- what a worker without an observer returns: what its turns led to
 pub record IsWorkOf {T C F P S A : Type 0} (program : Program P) (fetches : S → MayFetch) (delivers : S → Delivers)
     (answers : S → Answers) (failures : S → ℕ) (comes_from : S → S → Type 0) (may : A → Answerable)
     (seat : Shares) (source : S) (handler : A) (turns : ℕ) (worker : Worker T C F S) : Type 0 where
@@ -26,7 +26,7 @@ pub record IsWorkOf {T C F P S A : Type 0} (program : Program P) (fetches : S �
   pub led : IsLedBy program fetches delivers answers failures comes_from may (λ old turn new. new ≡ old) seat setup end
   pub worker_is : worker ≡ worker_of (end.counted, end)
 
--- so do workers, each of the seat, the source, the handler and the turns of its place
+-- the same for workers, each with the seat, the source, the handler and the turns of its place
 abbrev pub AreWorkOf : {T C F P S A : Type 0} → Program P → (S → MayFetch) → (S → Delivers) → (S → Answers) → (S → ℕ)
     → (S → S → Type 0) → (A → Answerable) → List Shares → List S → List A → List ℕ → List (Worker T C F S) → Type 0
 AreWorkOf program fetches delivers answers failures comes_from may [] [] [] [] [] = Unit {0}
@@ -42,16 +42,16 @@ WithinTurns [] [] [] = Unit {0}
 WithinTurns (old ∷ olds) (turns ∷ rest) (new ∷ news) = (new.taken ≤ old.taken + turns) × WithinTurns olds rest news
 WithinTurns _ _ _ = ⊥
 
--- where a worker kept a fault, the failures of its source rose: those of each source at first, the faults,
--- and those of the sources in the end
+-- if a worker kept a fault, the failures of its source rose: by the failures of the sources at first, the faults, and
+-- the failures of the sources in the end
 abbrev pub AllRoseIfFailed : List ℕ → List (Option SourceFault) → List ℕ → Type 0
 AllRoseIfFailed [] [] [] = Unit {0}
 AllRoseIfFailed (old ∷ olds) (fault ∷ faults) (new ∷ news) =
     RoseIfFailed fault old new × AllRoseIfFailed olds faults news
 AllRoseIfFailed _ _ _ = ⊥
 
--- each source was sent at most as many answers as its seat took tasks: how many answers the sources had at first and
--- what the seats had counted, and both in the end
+-- each source was sent at most as many answers as its seat took tasks: by how many answers the sources had and what the
+-- seats had counted at first, and both in the end
 abbrev pub AllAnsweredWithin : List ℕ → List Shares → List ℕ → List Shares → Type 0
 AllAnsweredWithin [] [] [] [] = Unit {0}
 AllAnsweredWithin (sent ∷ sents) (old ∷ olds) (more ∷ mores) (new ∷ news) =

@@ -1,2 +1,2 @@
--- What no contract of a public item cites: only those of private functions, and what types keep over private fields.
+-- Definitions that only contracts of private functions and invariants over private fields cite.
 pub mod Serve

@@ -25,12 +25,12 @@ use Rattle.wh_tasks.specs.declared.source.Sent.TheVariants.{Workflow as OfWorkfl
 use Rattle.wh_tasks.specs.Source.{Delivers, MayFetch, Answerable, Answers, Workflow as WorkflowDelivery, Activity as ActivityDelivery}
 use Rattle.wh_tasks.specs.Tasks.{Steps, IsAnswer}
 
--- a workflow task that is answered `Complete` is completed, else failed
+-- a workflow task answered with `Complete` is completed, any other failed
 abbrev pub outcome_of : Answer → Outcome
 outcome_of (Complete commands) = Completed
 outcome_of (Fail fault) = Failed
 
--- an activity task that is answered with a result is completed, else failed
+-- an activity task answered with a result is completed, any other failed
 abbrev pub activity_outcome : ActivityAnswer → Outcome
 activity_outcome (Done result) = Completed
 activity_outcome (Undone reason) = Failed
@@ -86,25 +86,25 @@ SendsNothing kind delivers old new (Ok Draining) = new ≡ old
 SendsNothing kind delivers old new (Ok NumbersSpent) = new ≡ old
 SendsNothing kind delivers old new (Err fault) = new ≡ old
 
--- one answer where a workflow task was served, and none otherwise
+-- one answer was sent if a workflow task was served, and none otherwise
 abbrev pub ServesWorkflow : {S : Type 0} → Program S → MayFetch → Delivers → Answers → Answers
     → Result Served SourceFault → Type 0
 ServesWorkflow program fetches delivers old new (Ok (Workflow name hit steps outcome)) =
     AnswersWorkflow program fetches delivers old new name hit steps outcome
 ServesWorkflow program fetches delivers old new served = SendsNothing WorkflowKind delivers old new served
 
--- one answer where an activity task was served, and none otherwise
+-- one answer was sent if an activity task was served, and none otherwise
 abbrev pub ServesActivity : Answerable → Delivers → Answers → Answers → Result Served SourceFault → Type 0
 ServesActivity may delivers old new (Ok (Activity name outcome)) = AnswersActivity may delivers old new name outcome
 ServesActivity may delivers old new served = SendsNothing ActivityKind delivers old new served
 
--- one answer where a task was served, which is of the kind that was asked for, and none otherwise
+-- one answer was sent if a task was served, which is of the kind asked for, and none otherwise
 abbrev pub Serves : {S : Type 0} → SlotKind → Program S → MayFetch → Delivers → Answerable → Answers → Answers
     → Result Served SourceFault → Type 0
 Serves WorkflowKind program fetches delivers may old new served = ServesWorkflow program fetches delivers old new served
 Serves ActivityKind program fetches delivers may old new served = ServesActivity may delivers old new served
 
--- the outcome was counted, or nothing
+-- at most the outcome was counted
 abbrev pub MayCount : Shares → Shares → Outcome → Type 0
 MayCount old new outcome = (new ≡ old) ⊎ (new ≡ with_outcome outcome old)
 
@@ -112,7 +112,7 @@ MayCount old new outcome = (new ≡ old) ⊎ (new ≡ with_outcome outcome old)
 abbrev pub Takes : Shares → Shares → Outcome → Type 0
 Takes old new outcome = MayCount (with_taken old) new outcome
 
--- what the seat has counted, by the answer
+-- what the seat counted in a turn, by its result
 abbrev pub Counts : Shares → Shares → Result Served SourceFault → Type 0
 Counts old new (Ok (Workflow name hit steps outcome)) = Takes old new outcome
 Counts old new (Ok (Activity name outcome)) = Takes old new outcome

@@ -1,4 +1,4 @@
--- A host that serves tasks of one table of histories, and what each task is answered.
+-- A host that serves tasks of one table of histories, and the answers to the tasks.
 use Rattle.std.specs.Prelude.{◌≡◌, ℕ, ◌+◌, ◌<◌, ◌≤◌, ◌++◌, Bool, true, List, [], ◌∷◌, length, take, drop, Option, Some, None, Ok}
 use Rattle.wh_events.specs.declared.event.Event.{Event}
 use Rattle.wh_events.specs.declared.key.RunKey.{RunKey}
@@ -13,7 +13,7 @@ use Rattle.wh_host.specs.Machine.{Claim, HostView, Call, UseWorkflow, GiveRun, o
 use Rattle.wh_host.specs.Machine.{GiveReply}
 use Rattle.wh_tasks.specs.Tasks.{Steps, IsAnswer, answer_to}
 
--- the histories by their run keys; a run that is not there has none
+-- the histories by their run keys; a run that is not there has no events
 abbrev pub Table : Type 0
 Table = RunKey → List Event
 
@@ -26,21 +26,21 @@ IsNumbered number (event ∷ rest) = (event.number ≡ number) × IsNumbered (nu
 abbrev pub IsTable : Table → Type 0
 IsTable table = (key : RunKey) → IsNumbered 1 (table key)
 
--- the source tells the history up to the number
+-- the source fetches the history up to the number
 abbrev pub told_by : Table → RunKey → ℕ → List Event → Type 0
 told_by table key up_to history = history ≡ take up_to (table key)
 
--- the host, and the runs that were replayed and not given yet, as the cache would keep them
+-- the host, and the runs that were replayed and not given back yet, as the cache would keep them
 pub record Steady : Type 0 where
   pub host : HostView
   pub in_hand : List Entry
 
--- a host that has just opened, with no run in hand
+-- a host that has just opened, beside which there are no runs
 abbrev pub beginning : ℕ → ℕ → ℕ → ℕ → Steady
 beginning workflow activity capacity bound = record { host = opening workflow activity capacity bound; in_hand = [] }
 
--- a use for a task of the run with its events after one number up to another; the reply, what replay of the
--- task gives, and the answer
+-- the use of a slot for a task of a run, with the events after one number up to another; with the call's result, the
+-- result of replay and the answer
 pub record Use : Type 0 where
   pub permit : Claim
   pub name : TaskName
@@ -54,8 +54,8 @@ pub record Use : Type 0 where
   pub hit : Bool
   pub answer : Answer
 
--- a use with its task, a give of a run in hand (with those before it and after it there), or another event of
--- the host, evictions and finishes among them
+-- a task is served; or a run beside the host is given back (with the runs before it and after it in the list); or
+-- another call of the host is made, as an eviction or a finish
 pub data Move : Type 0 where
   Uses : Use → Move
   Gives : Claim → List Entry → Held → List Entry → GiveReply → Move
@@ -65,12 +65,12 @@ pub data Move : Type 0 where
 abbrev pub task_of : Table → Use → List Event
 task_of table use_of = drop use_of.after (take use_of.up_to (table use_of.key))
 
--- the runs in hand, with the one that replay gave, if it gave one
+-- the runs beside the host, with the one that replay returned, if it returned one
 abbrev pub with_run : Option Held → List Entry → List Entry
 with_run None runs = runs
 with_run (Some run) runs = entry_of run ∷ runs
 
--- the use is accepted, its task ends in a started task of the history, and the answer is that of its replay
+-- the use of a slot is accepted, its events end in a started task of the history, and the answer is that of its replay
 pub record IsUse {S : Type 0} (program : Program S) (table : Table)
     (old : Steady) (u : Use) (new : Steady) : Type 0 where
   pub accepted : step old.host (UseWorkflow u.permit u.name u.key (Ok (u.held, u.cached))) new.host
@@ -83,7 +83,7 @@ pub record IsUse {S : Type 0} (program : Program S) (table : Table)
   pub answered : IsAnswer u.stepped u.fault u.answer
   pub in_hand : new.in_hand ≡ with_run u.stepped old.in_hand
 
--- the call brings no run in
+-- the call gives no run back
 abbrev pub BringsNoRun : Call → Type 0
 BringsNoRun (GiveRun held run reply) = ⊥
 BringsNoRun _ = Unit {0}
@@ -109,7 +109,7 @@ IsAnswered program table (Uses u) = u.answer ≡ answer_to program (take u.up_to
 IsAnswered program table (Gives held before run after reply) = Unit {0}
 IsAnswered program table (Happens call) = Unit {0}
 
--- so is each task of the moves
+-- each task of the moves is answered so
 abbrev pub AllAnswered : {S : Type 0} → Program S → Table → List Move → Type 0
 AllAnswered program table [] = Unit {0}
 AllAnswered program table (m ∷ ms) = IsAnswered program table m × AllAnswered program table ms
@@ -118,11 +118,11 @@ AllAnswered program table (m ∷ ms) = IsAnswered program table m × AllAnswered
 abbrev pub HoldsBeginning : Table → Entry → Type 0
 HoldsBeginning table run = (rest : List Event) × (table run.0 ≡ run.1.events ++ rest)
 
--- so does each of the runs
+-- each of the runs holds a beginning of its history
 abbrev pub AllHoldBeginnings : Table → List Entry → Type 0
 AllHoldBeginnings table [] = Unit {0}
 AllHoldBeginnings table (run ∷ runs) = HoldsBeginning table run × AllHoldBeginnings table runs
 
--- each run that is cached or in hand holds a beginning of its history
+-- each run in the cache or beside the host holds a beginning of its history
 abbrev pub IsSteady : Table → Steady → Type 0
 IsSteady table s = AllHoldBeginnings table s.host.cache.runs × AllHoldBeginnings table s.in_hand

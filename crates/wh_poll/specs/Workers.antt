@@ -1,4 +1,4 @@
--- What a worker keeps of its turns, and which kind it serves next.
+-- The fault that a worker keeps, and the kind of task that it serves next.
 use Rattle.std.specs.Prelude.{Bool, true, false, Option, Some, None, Result, Ok, Err, if◌then◌else◌}
 use Rattle.wh_slots.specs.declared.SlotKind.{SlotKind}
 use Rattle.wh_slots.specs.declared.SlotKind.TheVariants.{Workflow as WorkflowKind, Activity as ActivityKind}
@@ -7,7 +7,7 @@ use Rattle.wh_poll.specs.declared.serve.Served.{Served}
 use Rattle.wh_poll.specs.declared.serve.Served.TheVariants.{Closed, Draining}
 use Rattle.wh_poll.specs.declared.workers.Rota.{Rota}
 
--- the fault that is kept after a turn: the first
+-- the fault that a worker keeps after a turn: the first
 abbrev pub first_fault : Option SourceFault → Result Served SourceFault → Option SourceFault
 first_fault (Some first) served = Some first
 first_fault None (Ok served) = None
@@ -22,7 +22,7 @@ other ActivityKind = WorkflowKind
 abbrev pub first_rota : Rota
 first_rota = record { kind = WorkflowKind; other_closed = false }
 
--- the source has no task of the kind, now or later
+-- the turn found that the source has no task of the kind, now or later
 abbrev pub is_closed : Result Served SourceFault → Bool
 is_closed (Ok Closed) = true
 is_closed served = false

@@ -1,4 +1,4 @@
-//! Answers to tasks: a task is replayed or run, and its answer is sent.
+//! Replays workflow tasks and runs activity tasks, and sends the answers.
 ghost use Rattle.std.specs.Prelude.{◌≡◌, None, Err, IfOk, IfSome};
 ghost use Rattle.wh_tasks.specs.Source.{KeepsSource, SameMay};
 ghost use Rattle.wh_tasks.specs.Tasks.{IsAnswer, HasAnswer, FailsOnlySource};
@@ -17,30 +17,35 @@ use wh_tasks::{
 };
 use wh_workflow::{Meter, Workflow};
 
-/// What was sent: whether a cached run served, the steps that replay took, and how the task ended.
+/// How a workflow task was answered.
 #[derive(Clone, Copy)]
 pub(crate) struct Reply {
+    /// Whether a cached run was used.
     pub(crate) hit: bool,
+    /// The steps that replay took.
     pub(crate) steps: u64,
+    /// How the task ended.
     pub(crate) outcome: Outcome,
 }
 
-/// The run that may be cached, if there is one, and what was sent.
+/// The result of replaying a workflow task and sending the answer.
 #[derive(Drop)]
 pub(crate) struct Answered<W: Workflow> {
+    /// The run that may be cached, if there is one.
     pub(crate) run: Option<Run<W>>,
+    /// How the task was answered, or why nothing was sent.
     pub(crate) sent: Result<Reply, StepFault>,
 }
 
-/// How a workflow task ends whose answer was to be sent, and what becomes of its run.
+/// How a workflow task ends once its answer was to be sent, and what becomes of its run.
 #[derive(Clone, Copy)]
 struct TaskEnd {
     outcome: Result<Outcome, StepFault>,
     run: RunUse,
 }
 
-/// Replays a workflow task over a new meter, and sends the answer. The run that replay gave comes
-/// back where the source lets the run of this task be cached, also where sending fails.
+/// Replays a workflow task with a new meter, and sends the answer. Returns the run of the replay if
+/// the source allows the run of this task to be cached, also if sending failed.
 pub(crate) fn answer_by_replay<W: Workflow, S: TaskSource>(
     alloc: Global,
     run: Option<Run<W>>,
@@ -84,7 +89,7 @@ pub(crate) fn answer_by_replay<W: Workflow, S: TaskSource>(
     Answered { run, sent }
 }
 
-/// The run, where it may be cached.
+/// Returns the run if it may be cached.
 fn used<W: Workflow>(run: Option<Run<W>>, run_use: RunUse) -> Option<Run<W>>
     ensures kept { IfSome result (λ _. run_use ≡ RunUse.Cache) }
     ensures same { run_use ≡ RunUse.Cache → result ≡ run }
@@ -95,7 +100,7 @@ fn used<W: Workflow>(run: Option<Run<W>>, run_use: RunUse) -> Option<Run<W>>
     }
 }
 
-/// Nothing was sent, and no run comes back.
+/// Returns the result of a task when nothing was sent: the fault, and no run.
 fn not_answered<W: Workflow>(fault: StepFault) -> Answered<W>
     ensures sent { result.sent ≡ Err fault }
     ensures run { result.run ≡ None }
@@ -106,8 +111,8 @@ fn not_answered<W: Workflow>(fault: StepFault) -> Answered<W>
     }
 }
 
-/// Sends the answer to a workflow task that was replayed in so many steps. Where there is no memory
-/// for it, the source says what becomes of a run without an answer.
+/// Sends the answer to a workflow task that was replayed in this number of steps. If there is no
+/// memory for the answer, the source decides what becomes of a run without an answer.
 fn send_answer<W: Workflow, S: TaskSource>(
     alloc: Global,
     name: TaskName,
@@ -137,7 +142,7 @@ fn send_answer<W: Workflow, S: TaskSource>(
     }
 }
 
-/// The outcome of a task whose answer the source took, else why it did not.
+/// Returns the outcome of a task if the source accepted its answer, else why it did not.
 fn outcome_if_sent(sent: Result<(), SourceFault>, outcome: Outcome) -> Result<Outcome, StepFault>
     ensures { result ≡ outcome_if_sent sent outcome }
 {
@@ -147,7 +152,8 @@ fn outcome_if_sent(sent: Result<(), SourceFault>, outcome: Outcome) -> Result<Ou
     }
 }
 
-/// The events that an answer was replayed from: those of the run that replay gave.
+/// Returns the events that an answer was replayed from: those of the run that replay returned, and
+/// none if it returned no run.
 fn events_of<W: Workflow>(run: &Option<Run<W>>) -> &[Event]
     ensures { result.now ≡ held_by run.now }
 {
@@ -157,7 +163,7 @@ fn events_of<W: Workflow>(run: &Option<Run<W>>) -> &[Event]
     }
 }
 
-/// `Fail` of the fault, else the commands of the run.
+/// Returns `Fail` of the fault, else `Complete` with the commands of the run.
 fn answer_of<W: Workflow>(
     alloc: Global,
     run: &Option<Run<W>>,
@@ -173,7 +179,7 @@ fn answer_of<W: Workflow>(
     run.answer(alloc)
 }
 
-/// How a task ends with this answer.
+/// Returns how a workflow task ends with this answer.
 fn outcome_of(answer: &Answer) -> Outcome
     ensures { result ≡ outcome_of answer.now }
 {
@@ -204,7 +210,7 @@ pub(crate) fn answer_by_handler<S: TaskSource, A: ActivityHandler>(
     outcome_if_sent(sent, outcome)
 }
 
-/// How an activity task ends with this answer.
+/// Returns how an activity task ends with this answer.
 fn activity_outcome(answer: &ActivityAnswer) -> Outcome
     ensures { result ≡ activity_outcome answer.now }
 {

@@ -1,4 +1,4 @@
-//! The setups of an open host, and a host in one call.
+//! Workers on an open host, and a host that is opened, run and closed in one call.
 ghost use Rattle.std.specs.Prelude.{◌≡◌, ◌≤◌, ◌+◌, ◌↔◌, IfOk, Err, map, vec_capacity, vec_len};
 ghost use denote.Param.Send.{IsSend};
 ghost use Rattle.wh_ledger.specs.Shares.{sums_of};
@@ -27,16 +27,18 @@ use wh_workflow::Workflow;
 /// The seats of workers that have ended, and what each of them leaves.
 type Ended<T, C, F, S, A, O> = (Vec<Seat<T, C, F>>, Vec<WorkerEnd<S, A, O>>);
 
-/// Runs a worker in a thread of its own for each setup, on a host that stays the caller's: another
-/// thread may lock it meanwhile, to evict runs or to drain it, and it is closed with the seats that
-/// come back. There is a seat for each setup, in their order.
+/// Runs a worker in a thread of its own for each setup, on a host that the caller keeps. Another
+/// thread may lock the host meanwhile, to evict runs or to drain it. The caller closes it with the
+/// seats that are returned. There is a seat for each setup, in their order.
 ///
-/// The seats and what the workers leave come back in the order of the setups, and the list of the
-/// seats has the room that it had. Each worker leaves its setup as its turns led to it, with its
-/// handler and its observer, which was notified of each turn; its source comes from the one of the
-/// setup, with the same `delivers` and `fetches`, and was sent at most as many answers as the worker
-/// took tasks. `OutOfMemory` where there was no memory. Then the seats and the setups are given up,
-/// so the host can't be closed any more, and what workers did until then they have done.
+/// Returns the seats and what the workers leave, in the order of the setups. The list of the seats
+/// keeps its capacity. Each worker leaves what its turns made of its setup, with its handler and
+/// its observer, which was notified of each turn. Its source comes from the one of the setup, with
+/// the same `delivers` and `fetches`, and was sent at most as many answers as the worker took
+/// tasks.
+///
+/// Returns `OutOfMemory` if there was no memory. The seats and the setups are lost then, so the
+/// host can't be closed any more. What workers did until then is done.
 pub fn run_on_host<
     R: Threads + Wait + Sync,
     W: Workflow + Send,
@@ -84,13 +86,14 @@ pub struct HostEnd<S, A, O> {
 /// Opens a host of these sizes, runs a worker in a thread of its own for each setup, and closes the
 /// host once all have ended. The host has a seat for each setup.
 ///
-/// Each worker leaves its setup as its turns led to it, with its handler and its observer, which
-/// was notified of each turn; its source comes from the one of the setup, with the same `delivers`
+/// Each worker leaves what its turns made of its setup, with its handler and its observer, which
+/// was notified of each turn. Its source comes from the one of the setup, with the same `delivers`
 /// and `fetches`, and was sent at most as many answers as the worker took tasks. The totals are the
-/// sums of what the workers counted, and the sizes are those that were asked for. `BadConfig`
-/// where a size is not within its range, or the seats are not as many as the setups; `OutOfMemory`
-/// where there was no memory. Then the setups are given up. (Temporal documentation, "Workers": a
-/// Worker Process.)
+/// sums of what the workers counted, and the sizes are those that were asked for.
+///
+/// Returns `BadConfig` if a size is not within its range, or if there are not as many seats as
+/// setups, and `OutOfMemory` if there was no memory. The setups are lost then. (Temporal
+/// documentation, "Workers": a Worker Process.)
 pub fn run_host<
     W: Workflow + Send,
     R: Threads + Wait + Sync,
@@ -112,8 +115,9 @@ pub fn run_host<
     run_host_beside::<W, R, S, A, O, G, NoCompanion>(rt, alloc, config, setups, gate, None)
 }
 
-/// The same as `run_host`, with a companion in one thread more, if there is one. The host is opened
-/// with a seat for it, which counts nothing, unless the workers take all that a host may have.
+/// Does the same as `run_host`, with a companion, if there is one, in another thread. The host is
+/// opened with a seat for the companion, which counts nothing, unless the workers take all seats
+/// that a host may have.
 pub fn run_host_beside<
     W: Workflow + Send,
     R: Threads + Wait + Sync,
@@ -153,8 +157,8 @@ pub fn run_host_beside<
     Ok(HostEnd { config, ..end })
 }
 
-/// Opens a host of these sizes over these ledgers, runs its workers, and the companion beside them,
-/// and closes it. There may be a seat beside those of the workers.
+/// Opens a host of these sizes over these ledgers, runs its workers with the companion beside them,
+/// and closes it. There may be a spare seat beside those of the workers.
 fn run_with<
     W: Workflow + Send,
     R: Threads + Wait + Sync,
@@ -199,8 +203,8 @@ fn run_with<
     })
 }
 
-/// The same as `run_on_host`, with the companion in one thread more, if there is one. The seat that is
-/// there for it comes back as it was.
+/// Does the same as `run_on_host`, with the companion, if there is one, in another thread. The
+/// spare seat comes back as it was.
 pub fn run_beside<
     R: Threads + Wait + Sync,
     W: Workflow + Send,
@@ -261,7 +265,7 @@ pub fn run_beside<
     )
 }
 
-/// Closes a host with all of its seats, and gives what they counted.
+/// Closes a host with all of its seats, and returns what they counted.
 pub fn close_host<W: Workflow, T: Ledger, C: Ledger, F: Ledger>(
     host: Host<W, T, C, F>,
     seats: Vec<Seat<T, C, F>>,

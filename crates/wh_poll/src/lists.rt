@@ -1,5 +1,5 @@
-//! Calls by lists: a worker without an observer, and one in a thread of its own for each place of
-//! a list of seats, of sources, of handlers and of turns.
+//! Workers without observers: one alone, or one in a thread of its own for each place of equally
+//! long lists of seats, sources, handlers and turns.
 ghost use Rattle.std.specs.Prelude.{◌≡◌, ◌≤◌, ◌+◌, [], IfOk, length, map, vec_capacity, vec_len};
 ghost use Rattle.std.specs.List.{AllZip};
 ghost use Rattle.wh_tasks.specs.Source.{KeepsOrigin, RoseIfFailed, SameTasks};
@@ -19,10 +19,10 @@ use wh_ledger::Seat;
 use wh_tasks::{ActivityHandler, Gate, SourceFault, TaskSource};
 use wh_workflow::Workflow;
 
-/// What a worker hands back when it ends.
+/// What a worker returns when it ends.
 #[derive(Drop)]
 pub struct Worker<T: Ledger, C: Ledger, F: Ledger, S> {
-    /// Its seat, with what it has counted.
+    /// Its seat, with what it counted.
     pub seat: Seat<T, C, F>,
     /// Its source, with the answers that it was sent.
     pub source: S,
@@ -30,12 +30,14 @@ pub struct Worker<T: Ledger, C: Ledger, F: Ledger, S> {
     pub fault: Option<SourceFault>,
 }
 
-/// Serves tasks, at most one a turn: workflow and activity tasks by turns, workflow tasks first. A
-/// kind that is closed is not served again, and each later turn goes to the other. It ends when
-/// both are closed, when the host drains, or after so many turns. The first fault of the source is
-/// kept, and the work goes on. What comes back is what the turns led to, each of which is one of
-/// `serve_one`. The source comes from the one that was handed in, with the same `delivers` and
-/// `fetches`, and was sent at most as many answers as the seat took tasks.
+/// Runs a worker: serves at most one task each turn, workflow and activity tasks alternately,
+/// workflow tasks first. When a kind is closed, each later turn goes to the other kind. The worker
+/// ends when both kinds are closed, when the host drains, or after `turns` turns. It keeps the
+/// first fault of the source, and goes on.
+///
+/// Returns what the turns led to, each of them a call of `serve_one`. The returned source comes
+/// from the one that was passed in, with the same `delivers` and `fetches`, and was sent at most as
+/// many answers as the seat took tasks.
 pub fn work<
     R: Wait,
     W: Workflow,
@@ -57,7 +59,8 @@ pub fn work<
 ) -> Worker<T, C, F, S>
     ensures taken { result.seat.taken ≤ seat.taken + turns }
     ensures fault { RoseIfFailed result.fault (S.failures source) (S.failures result.source) }
-    ensures same { SameTasks (S.delivers source) (S.fetches source) (S.delivers result.source) (S.fetches result.source) }
+    ensures same { SameTasks (S.delivers source) (S.fetches source)
+        (S.delivers result.source) (S.fetches result.source) }
     ensures origin { KeepsOrigin S.comes_from source result.source }
     ensures answered { length (S.answers result.source) + seat.taken ≤ length (S.answers source) + result.seat.taken }
     ensures work { IsWorkOf W.program S.fetches S.delivers S.answers S.failures S.comes_from A.may
@@ -72,7 +75,7 @@ pub fn work<
     worker_of(run_worker(rt, alloc, host, gate, seat, setup))
 }
 
-/// What a worker hands back, by what it leaves.
+/// Returns what a worker returns, from what it leaves.
 fn worker_of<T: Ledger, C: Ledger, F: Ledger, S, A: Drop>(
     ended: EndedWorker<T, C, F, S, A, NoObserver>,
 ) -> Worker<T, C, F, S>
@@ -88,12 +91,12 @@ fn worker_of<T: Ledger, C: Ledger, F: Ledger, S, A: Drop>(
 }
 
 /// Runs a worker in a thread of its own for each seat, with the source, the handler and the turns
-/// of the same place. The four lists are equally long. The workers come back in the order of the
-/// seats, the taken share of each has risen by at most its turns, and where one kept a fault, its
-/// own source has failed. Each is what its turns led to, as in `work`: its source comes from the
-/// one of its place, and was sent at most as many answers as its seat took tasks. `OutOfMemory`
-/// where there was no memory; then the seats are given up. (Temporal documentation, "Workers": a
-/// Worker Process runs many task executors.)
+/// of the same place. The four lists are equally long. Returns the workers in the order of the
+/// seats. The taken share of each has risen by at most its turns, and if one kept a fault, its own
+/// source has failed. Each is what its turns led to, as in `work`: its source comes from the one of
+/// its place, and was sent at most as many answers as its seat took tasks. Returns `OutOfMemory` if
+/// there was no memory. The seats are lost then. (Temporal documentation, "Workers": a Worker
+/// Process runs many task executors.)
 pub fn run_workers<
     R: Threads + Wait + Sync,
     W: Workflow + Send,
@@ -137,7 +140,7 @@ pub fn run_workers<
     Ok(workers_of(ended, room))
 }
 
-/// What the workers hand back, by what they leave, in an empty list with room for it.
+/// Lists what the workers return, from what they leave, in an empty list with room for it.
 fn workers_of<T: Ledger, C: Ledger, F: Ledger, S: Drop, A: Drop>(
     mut ended: Vec<EndedWorker<T, C, F, S, A, NoObserver>>,
     mut workers: Vec<Worker<T, C, F, S>>,
@@ -153,7 +156,7 @@ fn workers_of<T: Ledger, C: Ledger, F: Ledger, S: Drop, A: Drop>(
     workers
 }
 
-/// A setup for each source, with the handler and the turns of its place, and no observer.
+/// Makes a setup for each source, with the handler and the turns of its place, and no observer.
 fn setups_of<S: Drop, A: Drop>(
     alloc: Global,
     mut sources: Vec<S>,

@@ -3,17 +3,17 @@
 use crate::serve::Served;
 use wh_tasks::SourceFault;
 
-/// Is notified of what each turn of its worker did, one for each worker, so that logs and measures
-/// have a place. It is called after the turn, while no lock of the host is held.
+/// Is notified of what each turn of a worker did, for logs and metrics. Each worker has an observer
+/// of its own. It is called after the turn, while no lock of the host is held.
 pub trait Observer {
     ghost use Rattle.std.specs.Prelude.{Result};
     ghost use Rattle.wh_poll.specs.declared.serve.Served.{Served};
     ghost use Rattle.wh_tasks.specs.declared.source.SourceFault.{SourceFault};
 
-    /// What the notification of a turn may make of it.
+    /// How the notification of a turn may change the observer.
     ghost hears: { Self → Result Served SourceFault → Self → Type 0 };
 
-    /// A turn has ended, and did this.
+    /// Notifies the observer that a turn has ended, and what it did.
     fn observe(&mut self, turn: Result<Served, SourceFault>)
         ensures { hears self.old turn self.new };
 }

@@ -4,8 +4,9 @@ ghost use Rattle.std.specs.Prelude.{◌≡◌, ◌≤◌, [], IfOk, OnOk, map, v
 use std::alloc::Global;
 use wh_events::OutOfMemory;
 
-/// Pairs each of the first with the second in its place. The list of the firsts is left empty, with
-/// the room that it had. `OutOfMemory` where there was no memory for the pairs.
+/// Pairs each element of the first list with the element of the second in its place. Leaves the
+/// first list empty, with the capacity that it had. Returns `OutOfMemory` if there was no memory
+/// for the pairs.
 pub(crate) fn zipped<A: Drop, B: Drop>(
     alloc: Global,
     firsts: &mut Vec<A>,
@@ -30,7 +31,7 @@ pub(crate) fn zipped<A: Drop, B: Drop>(
     Ok(pairs)
 }
 
-/// The firsts of the pairs and their seconds, in two empty lists with room for them.
+/// Takes pairs apart, into two empty lists with room for the elements.
 pub(crate) fn unzipped<A: Drop, B: Drop>(
     mut pairs: Vec<(A, B)>,
     room: (Vec<A>, Vec<B>),

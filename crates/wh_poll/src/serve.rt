@@ -35,14 +35,14 @@ pub enum Served {
         hit: bool,
         /// The steps that replay counted.
         steps: u64,
-        /// `Completed` where `Complete` was sent, `Failed` where `Fail` was.
+        /// `Completed` if `Complete` was sent, `Failed` if `Fail` was.
         outcome: Outcome,
     },
     /// An activity task was answered.
     Activity {
         /// The task's name.
         name: TaskName,
-        /// `Completed` where the activity's result was sent, `Failed` where its failure was.
+        /// `Completed` if the activity's result was sent, `Failed` if its failure was.
         outcome: Outcome,
     },
     /// There was no memory, and the task was not answered.
@@ -50,7 +50,7 @@ pub enum Served {
         /// The task's name.
         name: TaskName,
     },
-    /// A task of this name is in hand already, and the task was not answered again.
+    /// A task of this name is being processed already, and the task was not answered again.
     Repeated {
         /// The task's name.
         name: TaskName,
@@ -59,7 +59,7 @@ pub enum Served {
     Idle,
     /// The source has no task now or later.
     Closed,
-    /// Every slot of the kind is in use, and the source was not polled.
+    /// No slot of the kind is free, and the source was not polled.
     NoSlot,
     /// The host drains, and the source was not polled.
     Draining,
@@ -67,27 +67,29 @@ pub enum Served {
     NumbersSpent,
 }
 
-/// How a turn starts once it has polled.
+/// How a turn goes on after its poll.
 #[derive(Drop)]
 enum TurnStart<T> {
-    /// With a task.
+    /// With this task.
     Task(T),
-    /// It is over: there is no task, and this was served.
+    /// Not at all: there is no task, and the turn has this result.
     Over(Result<Served, SourceFault>),
 }
 
-/// Serves one task of the kind, if there is one: reserves a slot, polls the source, takes the task
-/// in hand, replays it or runs it, sends its answer, gives the run back to the cache, and finishes
-/// the task. The host is locked for each of its own steps alone; its lock is not held while the
-/// source is called, the gate is entered, workflow code is stepped or an activity is run.
+/// Serves one task of the kind, if there is one: reserves a slot, polls the source, starts
+/// processing the task, replays or runs it, sends its answer, gives the run back to the cache, and
+/// finishes the task. The host is locked only for each of its own steps. Its lock is not held while
+/// the source is called, the gate is entered, workflow code is stepped or an activity is run.
 ///
-/// `Workflow` and `Activity` are answered where exactly one answer was sent, under the name of a
-/// task that the source delivers: that of `replay_task` with no run or one of the task's key, and
-/// of the handler. Everything else sends nothing. A task that is answered, repeated or lost where
-/// memory ran out is a delivered one of the kind that was asked for. The seat's taken share rises
-/// by one where a task was taken in hand, and its completed or failed share by at most one, as the
-/// task's outcome says. A fault is the source's, after which no slot is left reserved or held by
-/// this turn. (Temporal documentation, "Workers", "Task Queues", "Sticky Execution".)
+/// Returns `Workflow` or `Activity` if exactly one answer was sent, under the name of a task that
+/// the source delivers: that of `replay_task`, with no run or one of the task's key, or that of the
+/// handler. With every other result nothing was sent. A task that was answered, repeated, or lost
+/// for want of memory is one of the kind asked for that the source delivers.
+///
+/// The seat's taken share rises by one if the turn started processing a task, and its completed or
+/// failed share by at most one, as the task's outcome says. A returned fault is that of the source.
+/// No slot is left reserved or held by this turn then. (Temporal documentation, "Workers", "Task
+/// Queues", "Sticky Execution".)
 pub fn serve_one<
     R: Wait,
     W: Workflow,
@@ -125,7 +127,7 @@ pub fn serve_one<
     }
 }
 
-/// What a turn has served that got no slot.
+/// Returns the result of a turn that got no slot.
 fn unreserved(fault: ReserveFault) -> Served
     ensures { result ≡ unreserved fault }
 {
@@ -171,7 +173,7 @@ fn serve_workflow<R: Wait, W: Workflow, T: Ledger, C: Ledger, F: Ledger, S: Task
     served_workflow(name, sent)
 }
 
-/// Polls a workflow task. Without one the turn has served what the poll says.
+/// Polls a workflow task. If there is none, the turn ends with the result of the poll.
 fn start_workflow<S: TaskSource>(source: &mut S) -> TurnStart<WorkflowTask>
     ensures task { Starts (λ task. S.delivers source.old (WorkflowDelivery task)) HasNoTask result }
     ensures answers { S.answers source.new ≡ S.answers source.old }
@@ -187,8 +189,8 @@ fn start_workflow<S: TaskSource>(source: &mut S) -> TurnStart<WorkflowTask>
     }
 }
 
-/// Answers a workflow task from the run that was cached, if one was, and gives the run to the
-/// cache where the source lets the run of this task be cached.
+/// Answers a workflow task, with the run that was cached, if one was. Gives the run of the replay
+/// to the cache if the source allows the run of this task to be cached.
 fn answer_held<R: Wait, W: Workflow, T: Ledger, C: Ledger, F: Ledger, S: TaskSource>(
     rt: &R,
     alloc: Global,
@@ -248,7 +250,7 @@ fn serve_activity<
     served_activity(name, sent)
 }
 
-/// Polls an activity task. Without one the turn has served what the poll says.
+/// Polls an activity task. If there is none, the turn ends with the result of the poll.
 fn start_activity<S: TaskSource>(source: &mut S) -> TurnStart<ActivityTask>
     ensures task { Starts (λ task. S.delivers source.old (ActivityDelivery task)) HasNoTask result }
     ensures answers { S.answers source.new ≡ S.answers source.old }
@@ -264,7 +266,7 @@ fn start_activity<S: TaskSource>(source: &mut S) -> TurnStart<ActivityTask>
     }
 }
 
-/// What serving a workflow task answers, by what was sent.
+/// Returns the result of serving a workflow task, by what was sent.
 fn served_workflow(name: TaskName, sent: Result<Reply, StepFault>) -> Result<Served, SourceFault>
     ensures { result ≡ served_workflow name sent }
 {
@@ -279,7 +281,7 @@ fn served_workflow(name: TaskName, sent: Result<Reply, StepFault>) -> Result<Ser
     }
 }
 
-/// What serving an activity task answers, by what was sent.
+/// Returns the result of serving an activity task, by what was sent.
 fn served_activity(name: TaskName, sent: Result<Outcome, StepFault>) -> Result<Served, SourceFault>
     ensures { result ≡ served_activity name sent }
 {
@@ -289,7 +291,7 @@ fn served_activity(name: TaskName, sent: Result<Outcome, StepFault>) -> Result<S
     }
 }
 
-/// What serving a task answers to which nothing was sent.
+/// Returns the result of serving a task if nothing was sent.
 fn unanswered(name: TaskName, fault: StepFault) -> Result<Served, SourceFault>
     ensures { result ≡ unanswered name fault }
 {
@@ -299,7 +301,7 @@ fn unanswered(name: TaskName, fault: StepFault) -> Result<Served, SourceFault>
     }
 }
 
-/// How a workflow task ends, by what was sent.
+/// Returns how a workflow task ends, by what was sent.
 fn outcome_of(sent: Result<Reply, StepFault>) -> Outcome
     ensures { result ≡ ended sent }
 {
@@ -309,9 +311,9 @@ fn outcome_of(sent: Result<Reply, StepFault>) -> Outcome
     }
 }
 
-/// Takes a workflow task in hand, with the run that is cached for its key, if one is. Where there
-/// is no memory for the key, or the host refuses, the permit is released, and the turn has served
-/// that.
+/// Starts processing a workflow task, with the run that is cached for its key, if one is. If there
+/// is no memory for the key, or the host refuses, releases the permit, and returns the result of
+/// the turn.
 fn take_workflow<R: Wait, W: Workflow, T: Ledger, C: Ledger, F: Ledger>(
     rt: &R,
     host: &Host<W, T, C, F>,
@@ -338,7 +340,7 @@ fn take_workflow<R: Wait, W: Workflow, T: Ledger, C: Ledger, F: Ledger>(
     }
 }
 
-/// Takes an activity task in hand. Where the host refuses, the permit is released.
+/// Starts processing an activity task. If the host refuses, releases the permit and returns `None`.
 fn take_activity<R: Wait, W: Workflow, T: Ledger, C: Ledger, F: Ledger>(
     rt: &R,
     host: &Host<W, T, C, F>,
@@ -358,7 +360,7 @@ fn take_activity<R: Wait, W: Workflow, T: Ledger, C: Ledger, F: Ledger>(
     }
 }
 
-/// The permit was not used.
+/// Releases a permit that was not used.
 fn release<R: Wait, W: Workflow, T: Ledger, C: Ledger, F: Ledger>(
     rt: &R,
     host: &Host<W, T, C, F>,
@@ -367,7 +369,7 @@ fn release<R: Wait, W: Workflow, T: Ledger, C: Ledger, F: Ledger>(
     let _released = host.lock(rt).release(permit);
 }
 
-/// The permit was not used, and this was served.
+/// Releases a permit that was not used, and returns the result of the turn.
 fn released<R: Wait, W: Workflow, T: Ledger, C: Ledger, F: Ledger>(
     rt: &R,
     host: &Host<W, T, C, F>,
@@ -380,7 +382,7 @@ fn released<R: Wait, W: Workflow, T: Ledger, C: Ledger, F: Ledger>(
     served
 }
 
-/// Gives the run that replay gave to the cache, if it gave one.
+/// Gives the run of the replay, if there is one, to the cache.
 fn give_back<R: Wait, W: Workflow, T: Ledger, C: Ledger, F: Ledger>(
     rt: &R,
     host: &Host<W, T, C, F>,

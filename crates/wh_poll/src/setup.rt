@@ -1,25 +1,25 @@
-//! What a worker begins with, and what it leaves.
+//! What a worker starts with, and what it leaves.
 
 use wh_ledger::Shares;
 use wh_tasks::SourceFault;
 
-/// What a worker begins with, beside its seat.
+/// What a worker starts with, beside its seat.
 #[derive(Drop)]
 pub struct WorkerSetup<S, A, O> {
-    /// Where its tasks come from, and their answers go.
+    /// The source that it polls and answers.
     pub source: S,
-    /// What runs its activities.
+    /// Runs its activities.
     pub handler: A,
-    /// What is notified of its turns.
+    /// Is notified of its turns.
     pub observer: O,
-    /// How many turns it takes at most.
+    /// The most turns that it takes.
     pub turns: u64,
 }
 
 /// What a worker leaves when it ends.
 #[derive(Drop)]
 pub struct WorkerEnd<S, A, O> {
-    /// What its seat has counted.
+    /// What its seat counted.
     pub counted: Shares,
     /// Its source, with the answers that it was sent.
     pub source: S,

@@ -1,4 +1,4 @@
-//! A worker's turns, one after the other, and workers in threads of their own.
+//! The turns of a worker, one after the other, and workers in threads of their own.
 ghost use Rattle.std.specs.Prelude.{◌≡◌, ◌≤◌, ◌<◌, ◌+◌, ℕ, IfOk, not, length, vec_len, slice_index_or};
 ghost use Rattle.std.specs.Bool.{OnTrue};
 ghost use denote.Param.Send.{IsSend};
@@ -26,7 +26,7 @@ pub(crate) type SeatedWorker<T, C, F, S, A, O> = (Seat<T, C, F>, WorkerSetup<S, 
 /// A seat with what its worker leaves.
 pub(crate) type EndedWorker<T, C, F, S, A, O> = (Seat<T, C, F>, WorkerEnd<S, A, O>);
 
-/// Which kind a worker serves next, and whether the other one is closed.
+/// Which kind of task a worker serves next, and whether the other kind is closed.
 #[derive(Clone, Copy)]
 struct Rota {
     kind: SlotKind,
@@ -34,7 +34,7 @@ struct Rota {
 }
 
 impl Rota {
-    /// The first turn is for a workflow task.
+    /// Returns the rota of the first turn, which is for a workflow task.
     fn first() -> Rota
         ensures { result ≡ first_rota }
     {
@@ -44,8 +44,8 @@ impl Rota {
         }
     }
 
-    /// Goes on after a turn that served this: to the other kind, unless that one is closed. False
-    /// where no turn follows.
+    /// Goes on after a turn that served this: to the other kind, unless that one is closed. Returns
+    /// whether another turn follows.
     fn goes_on(&mut self, served: Result<Served, SourceFault>) -> bool
         ensures ends { result ≡ not (is_last self.old.other_closed served) }
         ensures next { OnTrue result (self.new ≡ next_rota self.old served) }
@@ -62,7 +62,7 @@ impl Rota {
     }
 }
 
-/// The other kind.
+/// Returns the other kind.
 fn other(kind: SlotKind) -> SlotKind
     ensures { result ≡ other kind }
 {
@@ -73,8 +73,9 @@ fn other(kind: SlotKind) -> SlotKind
 }
 
 impl<S: TaskSource, A: ActivityHandler, O: Observer> WorkerEnd<S, A, O> {
-    /// Goes on from what the worker would leave by one turn more, with its seat: serves one task of
-    /// the kind, keeps the fault of the source, if it is the first, and notifies the observer.
+    /// Takes one more turn, from what the worker would leave before it: serves one task of the kind
+    /// with the worker's seat, keeps the fault of the source, if it is the first, and notifies the
+    /// observer.
     fn take_turn<R: Wait, W: Workflow, T: Ledger, C: Ledger, F: Ledger, G: Gate>(
         &mut self,
         rt: &R,
@@ -101,7 +102,7 @@ impl<S: TaskSource, A: ActivityHandler, O: Observer> WorkerEnd<S, A, O> {
     }
 }
 
-/// The fault that a worker keeps after a turn.
+/// Returns the fault that a worker keeps after a turn: the first.
 fn first_fault(
     kept: Option<SourceFault>,
     served: Result<Served, SourceFault>,
@@ -114,7 +115,7 @@ fn first_fault(
     }
 }
 
-/// Runs a worker from its setup to its end: serves tasks, at most one a turn.
+/// Runs a worker from its setup to its end, with at most one task each turn.
 pub(crate) fn run_worker<
     R: Wait,
     W: Workflow,
@@ -159,7 +160,7 @@ pub(crate) fn run_worker<
     (seat, end)
 }
 
-/// Runs a worker in a thread of its own for each seat with its setup.
+/// Runs a worker in a thread of its own for each pair of a seat and a setup.
 pub(crate) fn run_in_threads<
     R: Threads + Wait + Sync,
     W: Workflow + Send,

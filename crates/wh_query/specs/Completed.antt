@@ -1,4 +1,4 @@
--- A history that a server tells, up to what its completed tasks say.
+-- The part of a fetched history that its completed tasks cover.
 use Rattle.std.specs.Prelude.{◌≡◌, Bool, ◌&&◌, ◌||◌, not, ℕ, List, [], ◌∷◌, if◌then◌else◌}
 use Rattle.std.specs.List.{list_any}
 use Rattle.wh_events.specs.declared.event.Event.{Event}
@@ -8,12 +8,13 @@ use Rattle.wh_events.specs.Cuts.{is_cut, is_recorded, is_task_completed, is_task
 abbrev pub starts_last : Event → List Event → Bool
 starts_last event rest = is_task_started event && not (list_any is_task_completed rest)
 
--- the events before the first started task after which none is completed
+-- the events before the first started task after which no task is completed
 abbrev pub completed_part : List Event → List Event
 completed_part [] = []
 completed_part (event ∷ rest) = if starts_last event rest then [] else event ∷ completed_part rest
 
--- an event is part of it at first sight: a completed task, and what is no started one after events that all are
+-- an event is part of it by what is known so far: a completed task, or any event but a started task if all before it
+-- are part of it
 abbrev pub extends : Event → Bool → Bool
 extends event is_whole = is_task_completed event || (is_whole && not (is_task_started event))
 
@@ -25,6 +26,6 @@ completed_cuts (event ∷ rest) =
 
 -- ---- Laws
 
--- that part has each completed task, and no other
+-- the completed part has each completed task, and no other
 abbrev pub HasCompletedTasks : Type 0
 HasCompletedTasks = (events : List Event) → cuts (completed_part events) ≡ completed_cuts events

@@ -1,4 +1,4 @@
--- What a cached run and its whole history have to do with one another.
+-- Queries at a cached run and at its whole history.
 use Rattle.std.specs.Prelude.{◌≡◌, ℕ, true, List, [], ◌++◌, None}
 use Rattle.wh_events.specs.declared.event.Event.{Event}
 use Rattle.wh_events.specs.declared.event.Payload.{Payload}
@@ -10,8 +10,8 @@ use Rattle.wh_replay.specs.Runs.{confirms}
 use Rattle.wh_queryable.specs.Queries.{Queries}
 use Rattle.wh_query.specs.Queries.{query_at}
 
--- where new events confirm the held ones of a run, all are in place, and no cut is among the new ones, a query gives
--- the same at the joined history as at the held one
+-- if new events confirm those that a run holds, all are in place, and no cut is among the new ones, a query gives the
+-- same result at the joined history as at the held one
 abbrev pub QueriesAgree : {S : Type 0} → Program S → Queries S → Type 0
 QueriesAgree program queries =
     (held new : List Event) (query_type : List ℕ) (input : List Payload)

@@ -1,4 +1,4 @@
--- What a query gives at a history.
+-- The result of a query at a history.
 use Rattle.std.specs.Prelude.{ℕ, List, Result, Ok}
 use Rattle.wh_events.specs.declared.event.Event.{Event}
 use Rattle.wh_events.specs.declared.event.Payload.{Payload}
@@ -9,7 +9,8 @@ use Rattle.wh_replay.specs.Checks.{state_after}
 use Rattle.wh_queryable.specs.declared.queryable.QueryResult.{QueryResult}
 use Rattle.wh_queryable.specs.Queries.{Queries, result_in}
 
--- what a query gives at a history: that in the state that replay of its tasks leaves, or the fault of replay
-abbrev pub query_at : {S : Type 0} → Program S → Queries S → List Event → List ℕ → List Payload → Result QueryResult Fault
+-- the result of a query at a history: that in the state which replay of its tasks leaves, or the fault of replay
+abbrev pub query_at : {S : Type 0} → Program S → Queries S → List Event → List ℕ → List Payload
+    → Result QueryResult Fault
 query_at program queries events query_type input =
     and_then (state_after program events) (λ state. Ok (result_in queries state query_type input))

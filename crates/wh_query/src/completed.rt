@@ -1,4 +1,4 @@
-//! What queries give at a history that a server tells.
+//! Queries at a fetched history.
 ghost use Rattle.std.specs.Prelude.{◌≡◌, ◌≤◌, length, take};
 ghost use Rattle.wh_replay.specs.Checks.{Answers};
 ghost use Rattle.wh_query.specs.Queries.{query_at};
@@ -10,8 +10,9 @@ use wh_events::{Event, EventKind, Payload};
 use wh_queryable::{QueryResult, Queryable};
 use wh_replay::RunFault;
 
-/// Whether an event belongs to what completed tasks say, where all events before it do or don't: a
-/// completed task does with all before it, and a started one does not yet.
+/// Whether the completed part of a history goes on with an event, by what is known so far:
+/// `is_whole` says that all events before it are part of it. A completed task is, with all before
+/// it. A started task is not yet.
 fn extends(event: &Event, is_whole: bool) -> bool
     ensures { result ≡ extends event.now is_whole }
 {
@@ -22,7 +23,7 @@ fn extends(event: &Event, is_whole: bool) -> bool
     }
 }
 
-/// How many events stand before the first started task after which none is completed.
+/// Counts the events before the first started task after which no task is completed.
 fn completed_len(events: &[Event]) -> usize
     ensures part { take result events.now ≡ completed_part events.now }
     ensures within { result ≤ length events.now }
@@ -36,10 +37,10 @@ fn completed_len(events: &[Event]) -> usize
     end
 }
 
-/// What a query gives at a history that a server tells, by replay from its first event, or the fault
+/// Returns the result of a query at a fetched history, by replay from its first event, or the fault
 /// of that replay. The history may end anywhere: the query is answered in the state after its last
-/// completed task, and a task that is in hand is not given to the workflow yet (Temporal documentation,
-/// "Queries"). `OutOfMemory` may come in place of either.
+/// completed task, and the workflow does not get a task that is still being processed (Temporal
+/// documentation, "Queries"). Returns `OutOfMemory` if there was no memory.
 pub fn query_fetched<W: Queryable>(
     alloc: Global,
     events: Vec<Event>,

@@ -1,17 +1,18 @@
-//! What holds of every workflow that is queried.
+//! Laws of queries, of every workflow.
 ghost use Rattle.wh_query.specs.Laws.{QueriesAgree};
 ghost use Rattle.wh_query.specs.Completed.{HasCompletedTasks};
 
 use wh_queryable::Queryable;
 
-/// A query gives the same at a cached run as by replay of its whole history: where new events
-/// confirm those that the run holds, all are in place, and no task is among the new ones.
+/// A query gives the same result at a cached run as by replay of its whole history, if the new
+/// events confirm those that the run holds, all events are in place, and none of the new ones is a
+/// task's start at which replay stops.
 pub fn queries_agree<W: Queryable>()
     ensures { QueriesAgree W.program W.queries }
 {}
 
-/// What is queried of a history that a server tells has each task that is completed in it, and no
-/// task that is in hand.
+/// The part of a fetched history that is queried has each task that the history completes, and no
+/// task that is still being processed.
 pub fn fetched_tasks_are_completed()
     ensures { HasCompletedTasks }
 {}

@@ -1,9 +1,9 @@
-//! Queries of runs and of histories: what a query gives in the state that replay leaves.
+//! Queries of runs and of histories, in the state that replay leaves.
 #![tactic(auto)]
 
+mod completed;
 pub mod laws;
 mod querying;
-mod completed;
 
-pub use querying::{query_each, query_history, query_replayed, query_run};
 pub use completed::query_fetched;
+pub use querying::{query_each, query_history, query_replayed, query_run};

@@ -1,4 +1,4 @@
-//! What queries give at a run and at a history.
+//! Queries at a run and at a history.
 ghost use Rattle.std.specs.Prelude.{◌≡◌, Ok, IfOk, map};
 ghost use Rattle.wh_replay.specs.Checks.{Answers};
 ghost use Rattle.wh_query.specs.Queries.{query_at};
@@ -8,8 +8,8 @@ use wh_events::{Event, OutOfMemory, Payload};
 use wh_queryable::{Query, QueryResult, Queryable, query_state};
 use wh_replay::{ReplayedHistory, Run, RunFault, state_after};
 
-/// What a query gives at a run, which stays as it is. `OutOfMemory` where there was no memory for
-/// the result.
+/// Returns the result of a query at a run, which stays as it is. Returns `OutOfMemory` if there was
+/// no memory for the result.
 #[tactic(auto, using(crate::proofs::States::query_in_state))]
 pub fn query_run<W: Queryable>(
     alloc: Global,
@@ -23,8 +23,8 @@ pub fn query_run<W: Queryable>(
     query_state::<W>(alloc, run.state(), query_type, input)
 }
 
-/// What each of these queries gives at a run, in their order. The run stays as it is. `OutOfMemory`
-/// where there was no memory for the results.
+/// Returns the results of these queries at a run, in their order. The run stays as it is. Returns
+/// `OutOfMemory` if there was no memory for the results.
 pub fn query_each<W: Queryable>(
     alloc: Global,
     run: &Run<W>,
@@ -41,8 +41,8 @@ pub fn query_each<W: Queryable>(
     Ok(results)
 }
 
-/// What a query gives at a replayed history, as a cache keeps it. The history stays as it is.
-/// `OutOfMemory` where there was no memory for the result.
+/// Returns the result of a query at a replayed history, as a cache keeps it. The history stays as
+/// it is. Returns `OutOfMemory` if there was no memory for the result.
 #[tactic(auto, using(crate::proofs::States::query_in_state))]
 pub fn query_replayed<W: Queryable>(
     alloc: Global,
@@ -56,9 +56,9 @@ pub fn query_replayed<W: Queryable>(
     query_state::<W>(alloc, history.state(), query_type, input)
 }
 
-/// What a query gives at a history, by replay from its first event, or the fault of that replay. The
-/// history may end anywhere: what comes after its last task is not given to the workflow yet.
-/// `OutOfMemory` may come in place of either.
+/// Returns the result of a query at a history, by replay from its first event, or the fault of that
+/// replay. The history may end anywhere: the workflow does not get what comes after its last task.
+/// Returns `OutOfMemory` if there was no memory.
 pub fn query_history<W: Queryable>(
     alloc: Global,
     events: Vec<Event>,

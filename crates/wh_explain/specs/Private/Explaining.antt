@@ -1,4 +1,4 @@
--- Of Explaining: what only contracts of private functions cite.
+-- The part of Explaining that only contracts of private functions cite.
 use Rattle.std.specs.Prelude.{◌≡◌, ◌≢◌, false, List}
 use Rattle.wh_events.specs.declared.event.Event.{Event}
 use Rattle.wh_workflow.specs.Law.{Program}
@@ -12,12 +12,12 @@ use Rattle.wh_explain.specs.declared.explanation.ExplainedTask.{ExplainedTask}
 use Rattle.wh_explain.specs.Explaining.{stops}
 
 module _ {S : Type 0} where
-  -- where it does not stop, the task leaves this state and these versions
+  -- if the task does not stop the replay, it leaves this state and these versions
   abbrev pub LeavesTask : Program S → S → Settled → ExplainedTask → S → Settled → Type 0
   LeavesTask program state settled task left versions =
       stops task.ending ≡ false → (left ≡ state_after program state task.steps)
       × (versions ≡ settled_after settled task.steps)
 
-  -- the verdict on a history is what its check answers, unless memory ran out
+  -- the verdict on a history is the result of its check, unless memory ran out
   abbrev pub IsJudged : Program S → List Event → Verdict → Type 0
   IsJudged program events verdict = verdict ≢ OutOfMemory → verdict ≡ judged (checked program events)

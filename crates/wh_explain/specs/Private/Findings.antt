@@ -1,4 +1,4 @@
--- What is found of a history, and its tasks where they are kept.
+-- What replay finds of a history, and its tasks, if they are kept.
 use Rattle.std.specs.Prelude.{◌≡◌, ℕ, List, [], length, Option, Some, None, Result, Ok, Err}
 use Rattle.wh_events.specs.declared.event.Event.{Event}
 use Rattle.wh_events.specs.Cuts.{cuts}
@@ -19,13 +19,13 @@ use Rattle.wh_explain.specs.Differences.{last_difference}
 use Rattle.wh_explain.specs.Explaining.{AreTasksIn, AreTasksOf, AreTasksPlaced, unknown_in, unknown_of, unknown_placed}
 use Rattle.wh_explain.specs.Private.Stepping.{Keeps}
 
--- the verdict on tasks that were stepped up to this fault, or all
+-- the verdict on tasks that were stepped up to this fault, or all if there is none
 abbrev pub verdict_by : Option Fault → Checked → Verdict
 verdict_by None checked = Good checked
 verdict_by (Some fault) checked = Faulty fault
 
--- tasks are found, and kept as is asked for, and beside them this workflow type, this verdict, and the difference that
--- they end in
+-- the findings have these tasks, kept as `detail` says, this workflow type, this verdict, and the difference that the
+-- tasks end in
 pub record AreFound (detail : Detail) (AreThose : List ExplainedTask → Type 0) (unknown : Option (List ℕ))
     (verdict : Verdict) (finding : Finding) (kept : List ExplainedTask) : Type 0 where
   pub tasks : List ExplainedTask
@@ -36,7 +36,7 @@ pub record AreFound (detail : Detail) (AreThose : List ExplainedTask → Type 0)
   pub differs_in : finding.difference ≡ last_difference tasks
 
 module _ {S : Type 0} where
-  -- what checking events in place answers
+  -- the result of checking events in place
   abbrev pub checked_placed : Program S → Result (List Event) Fault → Result Checked Fault
   checked_placed program (Err fault) = Err fault
   checked_placed program (Ok events) =
@@ -45,17 +45,19 @@ module _ {S : Type 0} where
       (replay_after program [] [] events (start program (workflow_of events) 0)))
       (λ _. Ok (record { tasks = length (cuts events); live = ends_live events }))
 
-  -- what is found of events in place
+  -- the findings of events in place
   abbrev pub AreFoundPlaced : Detail → Program S → Result (List Event) Fault → Finding → List ExplainedTask → Type 0
   AreFoundPlaced detail program placed =
-      AreFound detail (AreTasksPlaced placed program) (unknown_placed program placed) (judged (checked_placed program placed))
+      AreFound detail (AreTasksPlaced placed program) (unknown_placed program placed)
+      (judged (checked_placed program placed))
 
-  -- of a history
+  -- the findings of a history
   abbrev pub AreFoundOf : Detail → Program S → List Event → Finding → List ExplainedTask → Type 0
   AreFoundOf detail program events =
       AreFound detail (AreTasksOf program events) (unknown_of program events) (judged (checked program events))
 
-  -- of a file
+  -- the findings of a file
   abbrev pub AreFoundIn : Detail → Program S → List ℕ → Finding → List ExplainedTask → Type 0
   AreFoundIn detail program bytes =
-      AreFound detail (AreTasksIn program (history bytes)) (unknown_in program (history bytes)) (verdict_on program bytes)
+      AreFound detail (AreTasksIn program (history bytes)) (unknown_in program (history bytes))
+      (verdict_on program bytes)

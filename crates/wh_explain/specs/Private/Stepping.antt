@@ -13,24 +13,27 @@ use Rattle.wh_replay.specs.Activating.{StopsAfter}
 use Rattle.wh_explain.specs.declared.explanation.Detail.{Detail}
 use Rattle.wh_explain.specs.declared.explanation.Detail.TheVariants.{Verdict, Steps}
 
--- what is kept is the whole, where the steps are kept; else nothing is said of it
+-- what is kept is the whole, if steps are kept; else it can be anything
 abbrev pub Keeps : {A : Type 0} → Detail → A → A → Type 0
 Keeps Verdict kept whole = Unit {0}
 Keeps Steps kept whole = kept ≡ whole
 
 module _ {S : Type 0} where
-  -- of the commands that the workflow gives at a job all are shown, or, where one of them can't
-  -- stand, those before it and that one; nothing is said where memory ran out
-  abbrev pub Shows : {A : Type 0} → Result A ScriptFault → Program S → ActivationContext → Progress S → Job → List Command → Type 0
+  -- all commands that the workflow gives at a job are shown, or those up to and with the first invalid one; if memory
+  -- ran out, what is shown can be anything
+  abbrev pub Shows : {A : Type 0} → Result A ScriptFault → Program S → ActivationContext → Progress S → Job
+      → List Command → Type 0
   Shows (Ok _) program context progress job shown = shown ≡ program.gives progress.state job
   Shows (Err (Workflow fault)) program context progress job shown =
       let script = progress.script in
-      (place : ℕ) × (stop : StopsAfter context script.settled script.issued (program.gives progress.state job) place fault)
+      (place : ℕ)
+      × (stop : StopsAfter context script.settled script.issued (program.gives progress.state job) place fault)
       × (shown ≡ stop.front ++ stop.command ∷ [])
   Shows (Err OutOfMemory) program context progress job shown = Unit {0}
 
-  -- the job is a step more, with the commands that are shown
-  abbrev pub AddsStep : {A : Type 0} → Result A ScriptFault → Program S → ActivationContext → Progress S → Job → List Step → List Step → Type 0
+  -- a step is added: the job with the commands that are shown
+  abbrev pub AddsStep : {A : Type 0} → Result A ScriptFault → Program S → ActivationContext → Progress S → Job
+      → List Step → List Step → Type 0
   AddsStep (Ok _) program context progress job before after =
       after ≡ before ++ record { job = job; commands = program.gives progress.state job } ∷ []
   AddsStep {A} (Err (Workflow fault)) program context progress job before after =
@@ -38,21 +41,22 @@ module _ {S : Type 0} where
       × Shows {A = A} (Err (Workflow fault)) program context progress job shown
   AddsStep (Err OutOfMemory) program context progress job before after = Unit {0}
 
-  -- there is a step more after those before it
-  abbrev pub AddsOneStep : {A : Type 0} → Result A ScriptFault → Program S → ActivationContext → Progress S → Job → List Step → Type 0
+  -- some step is added to those before it
+  abbrev pub AddsOneStep : {A : Type 0} → Result A ScriptFault → Program S → ActivationContext → Progress S → Job
+      → List Step → Type 0
   AddsOneStep result program context progress job before =
       (after : List Step) × AddsStep result program context progress job before after
 
-  -- the steps have this fault; where they have none, they leave this state, these versions and
-  -- these issued commands
+  -- the steps have this fault, if they have one; else they leave this state, these versions and these issued commands
   pub record Leaves (program : Program S) (context : ActivationContext) (state : S) (settled : Settled)
-      (steps : List Step) (fault : Option WorkflowFault) (left : S) (versions : Settled) (issued : List Command) : Type 0 where
+      (steps : List Step) (fault : Option WorkflowFault) (left : S) (versions : Settled)
+      (issued : List Command) : Type 0 where
     pub fault_is : fault ≡ fault_in context settled [] steps
     pub left_is : fault ≡ None → left ≡ state_after program state steps
     pub versions_are : fault ≡ None → versions ≡ settled_after settled steps
     pub issued_are : fault ≡ None → issued ≡ issued_in context settled steps
 
-  -- the steps of an activation are its longest script and leave that; they are kept as is asked for
+  -- the steps of an activation are its longest script and leave this; they are kept as `detail` says
   pub record Ran (detail : Detail) (program : Program S) (context : ActivationContext) (jobs : List Job) (state : S)
       (settled : Settled) (kept : List Step) (fault : Option WorkflowFault) (left : S) (versions : Settled)
       (issued : List Command) : Type 0 where

@@ -1,4 +1,4 @@
--- What is found of tasks: of each how it ends, and why no other follows.
+-- What replay finds of tasks: how each ends, and why no other follows.
 use Rattle.std.specs.Prelude.{◌≡◌, ℕ, Bool, false, List, [], length, Option, Some, None, is_none, Result, Ok, Err}
 use Rattle.wh_events.specs.declared.event.Event.{Event}
 use Rattle.wh_events.specs.Cuts.{cuts}
@@ -27,17 +27,17 @@ use Rattle.wh_explain.specs.Explaining.{sent_ending, unless_refused, IsTaskAt, A
 use Rattle.wh_explain.specs.Private.Explaining.{LeavesTask}
 use Rattle.wh_explain.specs.Private.Stepping.{Keeps}
 
--- the fault that no task follows, if there is one
+-- the fault that stops the replay, if there is one
 abbrev pub fault_of : Option Stop → Option Fault
 fault_of None = None
 fault_of (Some stop) = Some stop.fault
 
--- what is sent and what is recorded where they differ, if that is why
+-- the command and the event that differ, if that stops the replay
 abbrev pub difference_in : Option Stop → Option Pairing
 difference_in None = None
 difference_in (Some stop) = stop.difference
 
--- the second, if the first is there
+-- the second, if there is a first
 abbrev pub if_some : {A B : Type 0} → Option A → Option B → Option B
 if_some None second = None
 if_some (Some first) second = second
@@ -47,27 +47,27 @@ abbrev pub mismatch_at : ℕ → Option Mismatch → Option Fault
 mismatch_at at None = None
 mismatch_at at (Some difference) = Some (Mismatched at difference)
 
--- that of a command that can't stand comes before it
+-- the fault of a task: that of an invalid command, or else that of a mismatch
 abbrev pub fault_at : ℕ → Option WorkflowFault → Option Mismatch → Option Fault
 fault_at at None difference = mismatch_at at difference
 fault_at at (Some fault) difference = Some (WorkflowFaulty at fault)
 
--- the first difference between what is sent and what is recorded of a task, if it is recorded
+-- the first difference between the commands that a task sends and its record, if it is recorded
 abbrev pub mismatch_with : List Event → List Command → Option (List Event) → Option Mismatch
 mismatch_with events sent None = None
 mismatch_with events sent (Some recorded) = mismatch events sent recorded
 
--- nothing is to be shown of a recorded task, and others follow it
+-- nothing is shown of a recorded task, and others may follow it
 abbrev pub is_passed : Detail → Option Mismatch → Bool
 is_passed Verdict difference = is_none difference
 is_passed Steps difference = false
 
--- what is explained of a task
+-- the explanation of a task
 abbrev pub explained_task : ℕ → List ℕ → List Step → Ending → ExplainedTask
 explained_task at given steps ending = record { at = at; given = given; steps = steps; ending = ending }
 
--- how a task ends at the cut of a number that sends this, and has the fault, if there is one: that is kept as is asked
--- for, and it is said why no task follows
+-- how the task at a cut ends that sends these commands and has the fault, if there is one: the ending is kept as
+-- `detail` says, and the stop has the fault and the difference, if no task follows
 pub record IsEnd (detail : Detail) (at : ℕ) (events : List Event) (sent : List Command) (fault : Option WorkflowFault)
     (recorded : Option (List Event)) (end : TaskEnd) : Type 0 where
   pub keeps : Keeps detail end.ending (Some (unless_refused fault (sent_ending events sent recorded)))
@@ -81,8 +81,8 @@ task_fault events context settled at steps =
     fault_at at (fault_in context settled [] steps) (mismatch_with events sent context.recorded)
 
 module _ {S : Type 0} where
-  -- what is found of a task: what is explained of it is kept as is asked for, and it is said why no task follows, and
-  -- what it leaves
+  -- what replay finds of a task: its explanation, kept as `detail` says, the fault and the difference if no task
+  -- follows, and what it leaves
   pub record IsTaskFinding (detail : Detail) (program : Program S) (events : List Event) (context : ActivationContext)
       (told : List Job) (numbers : List ℕ) (at : ℕ) (state : S) (settled : Settled) (kept : Option ExplainedTask)
       (stop : Option Stop) (left : S) (versions : Settled) : Type 0 where
@@ -98,8 +98,9 @@ module _ {S : Type 0} where
   EndsBy result None = (left : ReplayResult S) × (result ≡ Ok left)
   EndsBy result (Some fault) = result ≡ Err fault
 
-  -- what is found of the tasks of a history from a state and settled versions on: what is explained of them is kept as
-  -- is asked for, and it is said why not all of them were stepped, or else how many there are and whether the last is live
+  -- what replay finds of the tasks of a history, from a state and settled versions on: their explanations, kept as
+  -- `detail` says, the fault and the difference if not all of them were stepped, and else how many there are and
+  -- whether the last is live
   pub record IsWalk (detail : Detail) (program : Program S) (events : List Event) (state : S) (settled : Settled)
       (walk : Walk) : Type 0 where
     pub tasks : List ExplainedTask

@@ -1,4 +1,4 @@
--- Of Serve: what only contracts of private functions cite.
+-- The part of Serve that only contracts of private functions cite.
 use Rattle.std.specs.Prelude.{◌≡◌, List, [], ◌∷◌, ◌++◌, Option, Some, None, Result, Ok, Err}
 use Rattle.wh_slots.specs.declared.TaskName.{TaskName}
 use Rattle.wh_slots.specs.declared.ReserveFault.{ReserveFault}
@@ -26,46 +26,46 @@ use Rattle.wh_tasks.specs.Source.{MayFetch, Answerable, Answers}
 use Rattle.wh_tasks.specs.Tasks.{IsAnswer}
 use Rattle.wh_poll.specs.Serve.{outcome_of, activity_outcome, IsReply}
 
--- the events that a run holds, and none where there is no run
+-- the events that a run holds, or none if there is no run
 abbrev pub held_by : Option Held → List Event
 held_by None = []
 held_by (Some run) = run.events
 
--- a workflow task to which nothing was sent is failed
+-- how a workflow task ends: as its reply says, and failed if nothing was sent
 abbrev pub ended : Result Reply StepFault → Outcome
 ended (Ok reply) = reply.outcome
 ended (Err fault) = Failed
 
--- the outcome of a task whose answer the source took, else why it did not
+-- the outcome of a task if the source accepted its answer, else why it did not
 abbrev pub outcome_if_sent : {A : Type 0} → Result A SourceFault → Outcome → Result Outcome StepFault
 outcome_if_sent (Ok x) outcome = Ok outcome
 outcome_if_sent (Err fault) outcome = Err (Source fault)
 
--- what a turn has served that got no slot
+-- the result of a turn that got no slot
 abbrev pub unreserved : ReserveFault → Served
 unreserved NoSlotIsFree = NoSlot
 unreserved HostDrains = Draining
 unreserved NoNumberIsLeft = NumbersSpent
 
--- what a turn has served whose poll gave no task
+-- the turn has the result of one whose poll returned no task
 abbrev pub HasNoTask : Result Served SourceFault → Type 0
 HasNoTask (Ok Idle) = Unit {0}
 HasNoTask (Ok Closed) = Unit {0}
 HasNoTask (Ok _) = ⊥
 HasNoTask (Err fault) = Unit {0}
 
--- it holds of the task that a turn starts with, or of what the turn has served without one
+-- one property holds for the task that a turn goes on with, or the other for the result of the turn without one
 abbrev pub Starts : {A : Type 0} → (A → Type 0) → (Result Served SourceFault → Type 0) → TurnStart A → Type 0
 Starts with_task over (Task task) = with_task task
 Starts with_task over (Over served) = over served
 
--- what a turn has served whose task of the name was not taken in hand
+-- the turn has the result of one that did not start processing its task of the name
 abbrev pub IsRefused : TaskName → Served → Type 0
 IsRefused name (NoMemory own) = own ≡ name
 IsRefused name (Repeated own) = own ≡ name
 IsRefused name _ = ⊥
 
--- the one answer to a task, or none
+-- the one answer to a workflow task was sent, or none
 abbrev pub Sends : {S : Type 0} → Program S → MayFetch → Option Held → WorkflowTask → Answers → Answers
     → Result Reply StepFault → Type 0
 Sends program fetches run task old new (Ok reply) =
@@ -74,7 +74,7 @@ Sends program fetches run task old new (Ok reply) =
     × (new ≡ old ++ (task.name, OfWorkflow answer) ∷ [])
 Sends program fetches run task old new (Err fault) = new ≡ old
 
--- the one answer to a task that was replayed, or none
+-- the one answer to a workflow task after its replay was sent, or none
 abbrev pub SendsAnswer : Option Held → Option Fault → TaskName → Answers → Answers → Result Outcome StepFault → Type 0
 SendsAnswer stepped fault name old new (Ok outcome) =
     (answer : Answer)
@@ -83,7 +83,7 @@ SendsAnswer stepped fault name old new (Ok outcome) =
     × (new ≡ old ++ (name, OfWorkflow answer) ∷ [])
 SendsAnswer stepped fault name old new (Err unsent) = new ≡ old
 
--- the one answer to an activity task, which the handler may give, or none
+-- the one answer to an activity task, which the handler may give, was sent, or none
 abbrev pub SendsActivity : Answerable → ActivityTask → Answers → Answers → Result Outcome StepFault → Type 0
 SendsActivity may task old new (Ok outcome) =
     (answer : ActivityAnswer)
@@ -92,17 +92,17 @@ SendsActivity may task old new (Ok outcome) =
     × (new ≡ old ++ (task.name, OfActivity answer) ∷ [])
 SendsActivity may task old new (Err fault) = new ≡ old
 
--- a task that got no answer, by why
+-- the result of serving a task that got no answer, by the reason
 abbrev pub unanswered : TaskName → StepFault → Result Served SourceFault
 unanswered name OutOfMemory = Ok (NoMemory name)
 unanswered name (Source fault) = Err fault
 
--- what serving a workflow task answers, by what was sent
+-- the result of serving a workflow task, by what was sent
 abbrev pub served_workflow : TaskName → Result Reply StepFault → Result Served SourceFault
 served_workflow name (Ok reply) = Ok (Workflow name reply.hit reply.steps reply.outcome)
 served_workflow name (Err fault) = unanswered name fault
 
--- what serving an activity task answers, by what was sent
+-- the result of serving an activity task, by what was sent
 abbrev pub served_activity : TaskName → Result Outcome StepFault → Result Served SourceFault
 served_activity name (Ok outcome) = Ok (Activity name outcome)
 served_activity name (Err fault) = unanswered name fault

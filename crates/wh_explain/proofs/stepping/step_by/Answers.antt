@@ -3,7 +3,7 @@ use Rattle.wh_explain.specs.declared.explanation.Detail.{Detail}
 use Rattle.wh_explain.specs.Private.Stepping.{Keeps}
 use Rattle.wh_explain.proofs.stepping.step_by.Goals as goal
 
--- where steps are not kept, nothing is said of what is kept
+-- if steps are not kept, what is kept can be anything
 pub returns-in-Verdict-clause-added : goal.returns-in-Verdict-clause-added
 returns-in-Verdict-clause-added g c before keeps =
     let more = c.take_job.ensures.added before in

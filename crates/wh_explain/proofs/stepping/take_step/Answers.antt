@@ -5,7 +5,7 @@ use Rattle.wh_replay.specs.Views.{context_of, progress_of}
 use Rattle.wh_explain.proofs.Traced.{adds_fault}
 use Rattle.wh_explain.proofs.stepping.take_step.Goals as goal
 
--- the commands up to the one that can't stand are those of the step
+-- the commands up to and with the invalid one are those of the step
 pub returns-in-Err-clause-added : goal.returns-in-Err-clause-added
 returns-in-Err-clause-added g c before =
     let after = c.step.new.self in

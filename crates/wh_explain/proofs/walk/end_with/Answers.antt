@@ -6,7 +6,7 @@ use Rattle.wh_explain.specs.Private.Tasks.{IsEnd}
 use Rattle.wh_explain.proofs.Ends.{refused_end}
 use Rattle.wh_explain.proofs.walk.end_with.Goals as goal
 
--- a command can't stand
+-- a command is invalid
 pub returns-in-Some : goal.returns-in-Some
 returns-in-Some c =
     let cut = c.args.cut.now in
