@@ -37,7 +37,7 @@ fn recorded_event(
 }
 
 /// Pairs a command with the event in its place, which matches the command or not.
-fn paired(alike: bool, command: Command, event: RecordedEvent) -> Pairing
+fn pairing_of(alike: bool, command: Command, event: RecordedEvent) -> Pairing
     ensures { result ≡ if alike then Alike command event else Different command event }
 {
     if alike {
@@ -59,7 +59,7 @@ fn pair(
     let alike = command.names(history, &event.body);
     let event = recorded_event(alloc, history, event)?;
     match command.try_copy() {
-        Ok(command) => Ok(paired(alike, command, event)),
+        Ok(command) => Ok(pairing_of(alike, command, event)),
         Err(full) => {
             drop(event);
             Err(full)

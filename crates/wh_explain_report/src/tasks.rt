@@ -143,7 +143,7 @@ fn next_count(alike: bool, count: usize) -> usize
 }
 
 /// Writes tasks after another one, with alike ones folded.
-fn write_folded<O: Write>(
+fn write_rest<O: Write>(
     first: &ExplainedTask,
     rest: &[ExplainedTask],
     writer: &mut O,
@@ -170,7 +170,7 @@ fn write_all<O: Write>(tasks: &[ExplainedTask], writer: &mut O) -> io::Result<()
         return Ok(());
     };
     write_task(first, writer)?;
-    write_folded(first, &tasks[1..], writer)
+    write_rest(first, &tasks[1..], writer)
 }
 
 /// Writes the tasks that are selected. If nothing is selected, it writes all tasks of a history

@@ -157,7 +157,7 @@ fn serve_workflow<R: Wait, W: Workflow, T: Ledger, C: Ledger, F: Ledger, S: Task
 {
     let task = match start_workflow(source) {
         TurnStart::Task(task) => task,
-        TurnStart::Over(served) => return released(rt, host, permit, served),
+        TurnStart::Over(served) => return end_without_task(rt, host, permit, served),
     };
     let name = task.name;
     let (held, cached) = match take_workflow(rt, host, permit, &task, seat) {
@@ -237,7 +237,7 @@ fn serve_activity<
 {
     let task = match start_activity(source) {
         TurnStart::Task(task) => task,
-        TurnStart::Over(served) => return released(rt, host, permit, served),
+        TurnStart::Over(served) => return end_without_task(rt, host, permit, served),
     };
     let name = task.name;
     let Some(held) = take_activity(rt, host, permit, name, seat) else {
@@ -327,14 +327,14 @@ fn take_workflow<R: Wait, W: Workflow, T: Ledger, C: Ledger, F: Ledger>(
 {
     let name = task.name;
     let Ok(key) = task.run.try_copy() else {
-        release(rt, host, permit);
+        release_permit(rt, host, permit);
         return Err(Served::NoMemory { name });
     };
     let used = host.lock(rt).use_workflow(permit, name, key, seat);
     match used {
         Ok(used) => Ok(used),
         Err((permit, _key, _fault)) => {
-            release(rt, host, permit);
+            release_permit(rt, host, permit);
             Err(Served::Repeated { name })
         }
     }
@@ -354,14 +354,14 @@ fn take_activity<R: Wait, W: Workflow, T: Ledger, C: Ledger, F: Ledger>(
     match used {
         Ok(held) => Some(held),
         Err((permit, _fault)) => {
-            release(rt, host, permit);
+            release_permit(rt, host, permit);
             None
         }
     }
 }
 
 /// Releases a permit that was not used.
-fn release<R: Wait, W: Workflow, T: Ledger, C: Ledger, F: Ledger>(
+fn release_permit<R: Wait, W: Workflow, T: Ledger, C: Ledger, F: Ledger>(
     rt: &R,
     host: &Host<W, T, C, F>,
     permit: Permit,
@@ -370,7 +370,7 @@ fn release<R: Wait, W: Workflow, T: Ledger, C: Ledger, F: Ledger>(
 }
 
 /// Releases a permit that was not used, and returns the result of the turn.
-fn released<R: Wait, W: Workflow, T: Ledger, C: Ledger, F: Ledger>(
+fn end_without_task<R: Wait, W: Workflow, T: Ledger, C: Ledger, F: Ledger>(
     rt: &R,
     host: &Host<W, T, C, F>,
     permit: Permit,
@@ -378,7 +378,7 @@ fn released<R: Wait, W: Workflow, T: Ledger, C: Ledger, F: Ledger>(
 ) -> Result<Served, SourceFault>
     ensures { result ≡ served }
 {
-    release(rt, host, permit);
+    release_permit(rt, host, permit);
     served
 }
 

@@ -5,7 +5,7 @@ use Rattle.std.specs.Io.KnownBytes.{Appends}
 use Rattle.wh_explain_report.specs.Alike.{alike_tasks}
 use Rattle.wh_explain_report.specs.TaskTexts.{fold_line, folded_from, next_count, unlike_text}
 use Rattle.wh_explain_report.proofs.Written.{counts_below, fold_more, folds_end}
-use Rattle.wh_explain_report.proofs.tasks.write_folded.Goals as goal
+use Rattle.wh_explain_report.proofs.tasks.write_rest.Goals as goal
 
 pub loop-task-preserved : goal.loop-task-preserved
 loop-task-preserved g c =

@@ -1,7 +1,7 @@
 use Rattle.std.proofs.Common.{◌≡◌, ◌≤◌, ◌++◌, ℕ, List, drop}
 use Rattle.std.specs.Io.KnownBytes.{Appends}
 use Rattle.wh_explain_report.specs.TaskTexts.{folded_from}
-use Rattle.wh_explain_report.proofs.tasks.write_folded.Given as goal
+use Rattle.wh_explain_report.proofs.tasks.write_rest.Given as goal
 
 -- what has been written, with the text of the rest, is the whole
 abbrev pub invariant-loop-task : goal.invariant-loop-task
