@@ -2,8 +2,8 @@ use Rattle.std.proofs.Common.{◌≡◌, ◌≤◌, ◌+◌, ℕ, List, length, 
 use Rattle.wh_events.specs.declared.event.Event.{Event}
 use Rattle.wh_query.specs.Completed.{completed_part}
 use Rattle.wh_query.proofs.CompletedTasks.{grows, stays}
-use Rattle.wh_query.proofs.told.completed_len.Goals as goal
-use Rattle.wh_query.proofs.told.completed_len.Goals.{then-extends, else-extends}
+use Rattle.wh_query.proofs.completed.completed_len.Goals as goal
+use Rattle.wh_query.proofs.completed.completed_len.Goals.{then-extends, else-extends}
 
 pub loop-place-preserved : goal.loop-place-preserved
 loop-place-preserved c =

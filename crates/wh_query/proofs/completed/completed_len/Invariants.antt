@@ -1,6 +1,6 @@
 use Rattle.std.proofs.Common.{◌≡◌, ◌≤◌, length, take}
 use Rattle.wh_query.specs.Completed.{completed_part}
-use Rattle.wh_query.proofs.told.completed_len.Given as goal
+use Rattle.wh_query.proofs.completed.completed_len.Given as goal
 
 abbrev pub invariant-loop-place : goal.invariant-loop-place
 invariant-loop-place l =
