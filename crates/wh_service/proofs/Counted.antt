@@ -1,5 +1,5 @@
 -- Failed tasks that repeat one, counted one after another.
-use Rattle.std.proofs.Common.{◌≡◌, ◌∙◌, ℕ, ◌+◌, Bool, true, false, List, [], ◌∷◌, ap}
+use Rattle.std.proofs.Common.{◌≡◌, ◌∙◌, ◌+◌, true, false, List, ◌∷◌, ap}
 use Rattle.std.specs.Prelude.{if◌then◌else◌}
 use Rattle.wh_service.specs.declared.failures.FileFailure.{FileFailure}
 use Rattle.wh_service.specs.Repeats.{is_repeat, repeats}

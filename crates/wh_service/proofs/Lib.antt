@@ -1,6 +1,6 @@
 pub mod Counted
 pub mod Assigned
-pub mod ReadFiles
+pub mod FilesRead
 pub mod FileRows
 pub mod Turns
 pub mod Workers

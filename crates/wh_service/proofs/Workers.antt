@@ -9,10 +9,12 @@ use Rattle.wh_host.specs.declared.reply.Totals.{Totals}
 use Rattle.wh_recorded.specs.Rounds.{Stage, opening_stage, has_last_record}
 use Rattle.wh_service.specs.declared.rows.Row.{Row}
 use Rattle.wh_service.specs.declared.failures.FileFailure.{FileFailure}
+use Rattle.wh_service.specs.declared.service.Served.{Served}
 use Rattle.wh_service.specs.declared.service.ServiceEnd.{ServiceEnd}
-use Rattle.wh_service.specs.Services.{IsServiceEnd}
+use Rattle.wh_service.specs.Services.{IsEndOf, IsServed, IsServiceEnd}
 use Rattle.wh_workflow.specs.Law.{Program}
 use Rattle.wh_file_faults.specs.Faults.{AreFaultsOf}
+use Rattle.wh_file_faults.specs.declared.file_faults.FileFault.{FileFault}
 use Rattle.wh_service.specs.Services.{IsServiceEndOver}
 use Rattle.wh_file_faults.proofs.Collected.{as_they_are}
 use Rattle.wh_file_faults.specs.Faults.{File}
@@ -110,3 +112,15 @@ pub faults_of_files : {S : Type 0} (program : Program S) (hosts : HostsBy) (conf
     → AreFaultsOf program files end.file_faults.items
 faults_of_files program hosts config files old new end h =
     subst (λ l. AreFaultsOf program l end.file_faults.items) (as_they_are files h.files h.from) h.faults
+
+-- the end of what was served of files is the end of a service of them
+pub end_of_served : (hosts : HostsBy) (config : Config) (readings : List Reading) (faults : List FileFault) (served : Served) (old new : Option (List ℕ)) (end : ServiceEnd)
+    → IsServed hosts config readings faults served → IsEndOf served old new end
+    → IsServiceEnd hosts config readings old new end
+end_of_served hosts config readings faults served old new end is ended = record {
+  rows = served.service.rows.items;
+  totals = served.service.totals;
+  service = rw (ended.failures, ended.uncompared, ended.faultless) is.service;
+  written = ended.written;
+  ends = rw ended.faultless ended.ends;
+}

@@ -5,7 +5,8 @@ use Rattle.wh_replay.specs.declared.fault.Fault.TheVariants.{Mismatch, NotATask,
 use Rattle.wh_service.specs.declared.failures.FileFailure.{FileFailure}
 use Rattle.wh_service.specs.Texts.{failure_text}
 
--- the fault is that of the event in a place, of the commands of a task, a difference in a task, or that there is no task
+-- the fault is that of the event in a place, of the commands of a task, a difference in a task, or that there is no
+-- task
 abbrev pub is_of_event : ℕ → Fault → Bool
 is_of_event at (Place own _) = eqb at own
 is_of_event at _ = false

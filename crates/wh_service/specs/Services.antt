@@ -5,6 +5,7 @@ use Rattle.std.specs.Io.KnownBytes.{Appends}
 use Rattle.std.specs.declared.alloc.Global.{Global}
 use Rattle.wh_file_faults.specs.Faults.{AreFaultsOf, File}
 use Rattle.wh_file_faults.specs.Made.{IsFaultIn}
+use Rattle.wh_file_faults.specs.declared.file_faults.FileFault.{FileFault}
 use Rattle.wh_files.specs.declared.InputFault.{InputFault}
 use Rattle.wh_file_faults.specs.declared.command_fault.CommandFault.TheVariants.{OutOfMemory}
 use Rattle.wh_json.specs.declared.fault.ReadFault.{ReadFault}
@@ -25,6 +26,7 @@ use Rattle.wh_service.specs.declared.failures.FileFailure.{FileFailure}
 use Rattle.wh_service.specs.declared.outcomes.Service.{Service}
 use Rattle.wh_service.specs.declared.rows.FileCounts.{FileCounts}
 use Rattle.wh_service.specs.declared.rows.Row.{Row}
+use Rattle.wh_service.specs.declared.service.Served.{Served}
 use Rattle.wh_service.specs.declared.service.ServiceEnd.{ServiceEnd}
 use Rattle.wh_service.specs.declared.service.ServiceFault.{ServiceFault}
 use Rattle.wh_service.specs.declared.service.ServiceFault.TheVariants.{Input, Report}
@@ -125,6 +127,21 @@ are_good rows = list_all (λ row. is_good_outcome row.outcome) rows
 -- 0 where no worker has a fault, no task failed and each file was read, and else 1
 abbrev pub status_of : Bool → List Row → Totals → ℕ
 status_of faultless rows totals = if faultless && (eqb totals.failed 0 && are_good rows) then 0 else 1
+
+-- what was served of files is a service of them, and beside it are these faults, which are reported of the files
+pub record IsServed (hosts : HostsBy) (config : Config) (readings : List Reading) (faults : List FileFault)
+    (served : Served) : Type 0 where
+  pub service : IsServiceOf hosts config readings served.service
+  pub reported : served.file_faults.items ≡ faults
+
+-- the report of what was served has been written, and the end says the status and what else is reported
+pub record IsEndOf (served : Served) (old new : Option (List ℕ)) (end : ServiceEnd) : Type 0 where
+  pub written : Appends old new (service_text served.service.rows.items served.service.totals)
+  pub ends : end.status ≡ status_of served.service.faultless served.service.rows.items served.service.totals
+  pub failures : end.failures.items ≡ served.service.failures.items
+  pub uncompared : end.uncompared ≡ served.service.uncompared
+  pub faultless : end.faultless ≡ served.service.faultless
+  pub faults : end.file_faults.items ≡ served.file_faults.items
 
 -- the end of a service: its report has been written, and the end says the status and what else is reported
 pub record IsServiceEnd (hosts : HostsBy) (config : Config) (readings : List Reading) (old new : Option (List ℕ))

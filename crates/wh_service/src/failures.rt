@@ -14,7 +14,7 @@ use wh_workflow::WorkflowFault;
 
 /// A failed task of a file. As a text: the name of the file as the report shows it, the task by the
 /// event that starts it, and its fault as the report of replay has it, or that it was not answered.
-/// Of a fault of commands only the name is said, and after it which task has it, where that is
+/// Of a fault of commands only the name is given, and after it which task has it, if that is
 /// another.
 #[derive(Drop)]
 pub struct FileFailure {
@@ -24,8 +24,8 @@ pub struct FileFailure {
     pub task: FailedTask,
 }
 
-/// Whether a fault of commands is that of another task than this one. Where there is no code for the
-/// workflow type, no task has it.
+/// Whether a fault of commands is that of another task than this one. If the workflow type is not
+/// registered, no task has it.
 fn is_of_another(at: u64, own: u64, fault: WorkflowFault) -> bool
     ensures { result ≡ is_of_another at own fault }
 {
@@ -139,7 +139,8 @@ fn is_no_task(fault: Fault) -> bool
     }
 }
 
-/// Whether two faults of a file are one: they are of one event or of one task, which has at most one.
+/// Whether two faults of a file are one: they are of one event or of one task, which has at most
+/// one.
 fn is_same_fault(one: Fault, other: Fault) -> bool
     ensures { result ≡ is_same_fault one other }
 {
@@ -151,7 +152,8 @@ fn is_same_fault(one: Fault, other: Fault) -> bool
     }
 }
 
-/// Whether two tasks of a file failed for one reason: neither was answered, or their faults are one.
+/// Whether two tasks of a file failed for one reason: neither was answered, or their faults are
+/// one.
 fn is_same_reason(one: Option<Fault>, other: Option<Fault>) -> bool
     ensures { result ≡ is_same_reason one other }
 {
@@ -164,8 +166,8 @@ fn is_same_reason(one: Option<Fault>, other: Option<Fault>) -> bool
     }
 }
 
-/// Whether a failed task repeats one before it: it is of a file of the same name, and failed for the
-/// same reason.
+/// Whether a failed task repeats one before it: it is of a file of the same name, and failed for
+/// the same reason.
 pub fn is_repeat(one: &FileFailure, next: &FileFailure) -> bool
     ensures { result ≡ is_repeat one.now next.now }
 {
@@ -186,7 +188,7 @@ pub fn repeats(one: &FileFailure, after: &[FileFailure]) -> usize
     count
 }
 
-/// How many more there are, in words, where there are any.
+/// How many more there are, in words, if there are any.
 #[derive(Clone, Copy)]
 struct MoreText(usize);
 
@@ -203,8 +205,8 @@ impl fmt::Display for MoreText {
     }
 }
 
-/// A failed task, and how many repeat it. As a text: that of the failed task, and after it the number
-/// of the others, where there are any.
+/// A failed task, and how many repeat it. As a text: that of the failed task, and after it the
+/// number of the others, if there are any.
 #[derive(Drop)]
 pub struct RepeatedFailure<'a> {
     /// The first of them.

@@ -19,8 +19,8 @@ pub type ServiceSetup = WorkerSetup<ScriptSource, NoActivities, NoObserver>;
 /// What is left of the host of a service.
 pub type ServiceHost = HostEnd<ScriptSource, NoActivities, NoObserver>;
 
-/// Opens a host of these sizes, runs a worker for each setup until its source has no more tasks, and
-/// closes the host.
+/// Opens a host of these sizes, runs a worker for each setup until its source has no more tasks,
+/// and closes the host.
 pub fn host_of<W: Workflow + Send, R: Threads + Wait + Sync>(
     rt: &R,
     alloc: Global,

@@ -4,8 +4,8 @@ ghost use Rattle.wh_service.specs.Laws.{AreAssignedInOrder, EachGoesToItsWorker,
 ghost use Rattle.wh_service.specs.Laws.{AsManyRowsAsFiles, EachFailureIsReported, EachRowIsOfItsFile};
 ghost use Rattle.wh_service.specs.Laws.{NoOtherFailureIsReported};
 
-/// Each history that can be read goes to one worker, and to no other: to the one whose turn its file
-/// is. A worker has its histories in the order of their files, and each once.
+/// Each history that can be read goes to one worker, and to no other: to the one whose turn its
+/// file is. A worker has its histories in the order of their files, and each once.
 pub fn each_history_goes_to_one_worker()
     ensures own { EachGoesToItsWorker }
     ensures others { NothingElseIsAssigned }

@@ -13,5 +13,8 @@ mod service;
 
 pub use failures::{FileFailure, RepeatedFailure, is_repeat, repeats};
 pub use host::{ServiceHost, ServiceSetup, host_of};
+pub use readings::{ReadFiles, read_inputs};
 pub use rows::{FileCounts, Row};
-pub use service::{ServiceEnd, ServiceFault, serve_files, serve_inputs};
+pub use service::{
+    Served, ServiceEnd, ServiceFault, report_served, serve_files, serve_inputs, serve_read,
+};

@@ -1,12 +1,14 @@
 //! Files are read, each in the thread that parses it.
 
-ghost use Rattle.std.specs.Prelude.{◌≡◌, ◌⊎◌, Err, IfErr, IfOk, MatchResult, Ok, not, string_bytes};
+ghost use Rattle.std.specs.Prelude.{◌≡◌, ◌++◌, ◌⊎◌, [], Err, IfErr, IfOk, MatchResult, Ok, OnOk};
+ghost use Rattle.std.specs.Prelude.{count_by, length, not, string_bytes};
 ghost use Rattle.wh_file_faults.specs.Faults.{HasHistory, IsCauseIn, IsFaultOf, IsReportedOf};
 ghost use Rattle.wh_file_faults.specs.Made.{IsFaultIn, IsMadeOf};
 ghost use Rattle.wh_files.specs.declared.InputFault.TheVariants.{OutOfMemory as InputMemory};
 ghost use Rattle.wh_json.specs.Events.{history};
 ghost use Rattle.wh_replay.specs.Replays.{workflow_of};
-ghost use Rattle.wh_service.specs.Readings.{AreRead, IsReading, reading};
+ghost use Rattle.wh_service.specs.Readings.{AreRead, HasRead, IsReading, faulty_of, is_unread};
+ghost use Rattle.wh_service.specs.Readings.{reading, readings_of};
 
 use std::alloc::Global;
 use std::thread::Threads;
@@ -25,7 +27,68 @@ pub(crate) struct ReadFile {
     pub(crate) outcome: Result<Vec<Event>, ReadFault>,
 }
 
-/// Whether there is no code for the workflow type that a history begins with.
+/// What was read of inputs: each as a file, in their order, and what is reported of them.
+#[derive(Drop)]
+pub struct ReadFiles {
+    pub(crate) files: Vec<ReadFile>,
+    pub(crate) faults: Vec<FileFault>,
+}
+
+/// Whether no history can be read of a file.
+fn is_unread(file: &ReadFile) -> bool
+    ensures { result ≡ is_unread (reading file.now) }
+{
+    match &file.outcome {
+        Ok(_) => false,
+        Err(_) => true,
+    }
+}
+
+impl ReadFiles {
+    /// Returns what is read of no inputs.
+    pub fn new(alloc: Global) -> ReadFiles
+        ensures files { result.files.items ≡ [] }
+        ensures faults { result.faults.items ≡ [] }
+    {
+        ReadFiles {
+            files: Vec::new(alloc),
+            faults: Vec::new(alloc),
+        }
+    }
+
+    /// Returns how many inputs were read.
+    pub fn count(&self) -> usize
+        ensures count { result ≡ length (readings_of self.now) }
+    {
+        self.files.len()
+    }
+
+    /// Returns of how many inputs no history can be read.
+    pub fn unread_count(&self) -> usize
+        ensures count { result ≡ count_by (λ own. own) (faulty_of (readings_of self.now)) }
+    {
+        self.files.iter().filter(|file| is_unread(file)).count()
+    }
+
+    /// Adds what was read of later inputs. `OutOfMemory` if there is no memory for that; then some
+    /// of it may have been added.
+    pub fn append(&mut self, later: ReadFiles) -> Result<(), OutOfMemory>
+        ensures files { OnOk result
+            (readings_of self.new ≡ readings_of self.old ++ readings_of later) }
+        ensures faults { OnOk result
+            (self.new.faults.items ≡ self.old.faults.items ++ later.faults.items) }
+    {
+        let ReadFiles {
+            mut files,
+            mut faults,
+        } = later;
+        self.files.append(&mut files)?;
+        self.faults.append(&mut faults)?;
+        Ok(())
+    }
+}
+
+/// Whether the workflow type that a history begins with is not registered.
 fn lacks_code<W: Workflow>(events: &[Event]) -> bool
     ensures { result ≡ not (W.program.knows (workflow_of events.now)) }
 {
@@ -43,7 +106,7 @@ fn read_again(alloc: Global, bytes: &[u8]) -> Result<Vec<Event>, InputFault>
     }
 }
 
-/// A history in place, and its workflow type, if there is no code for it.
+/// A history in place, and its workflow type, if that is not registered.
 fn with_code_fault<W: Workflow>(
     alloc: Global,
     name: &str,
@@ -61,8 +124,8 @@ fn with_code_fault<W: Workflow>(
     }
 }
 
-/// A history, and its workflow type, for which there is no code, if its events are in place. Only
-/// where they are not, its bytes are parsed once more.
+/// A history, and its workflow type, which is not registered, if its events are in place. Only if
+/// they are not, its bytes are parsed once more.
 fn placed<W: Workflow>(
     alloc: Global,
     name: &str,
@@ -81,7 +144,7 @@ fn placed<W: Workflow>(
     }
 }
 
-/// A history, and what is reported of its file: its workflow type, where there is no code for it.
+/// A history, and what is reported of its file: its workflow type, if that is not registered.
 fn with_fault<W: Workflow>(
     alloc: Global,
     name: &str,
@@ -159,11 +222,8 @@ fn read_file<W: Workflow>(
     }
 }
 
-/// Reads inputs and parses them, in their order, and gives beside them where inputs are no JSON and
-/// for which workflow types there is no code. Each is read in the thread that parses it: so the
-/// bytes of no more files are there at once than there are threads, and only histories are held.
-/// The fault is that of an input that cannot be read, as `read` gives it, or `OutOfMemory`.
-pub(crate) fn read_all<
+/// Reads inputs and parses them in threads. Beside each stands what is reported of it.
+fn read_all<
     W: Workflow + Send,
     R: Threads + Sync,
     T: Send + Drop,
@@ -196,4 +256,23 @@ pub(crate) fn read_all<
         return Err(InputFault::OutOfMemory);
     };
     parts
+}
+
+/// Reads inputs and parses them, and returns what was read of them, in their order. Each is read in
+/// the thread that parses it: so the bytes of no more files are there at once than there are
+/// threads, and only histories are held. The fault is that of an input that can't be read, as
+/// `read` returns it, or `OutOfMemory`.
+pub fn read_inputs<
+    W: Workflow + Send,
+    R: Threads + Sync,
+    T: Send + Drop,
+    F: Fn(T) -> Result<(String, Vec<u8>), InputFault> + Copy + Send + Sync,
+>(rt: &R, alloc: Global, inputs: Vec<T>, read: F) -> Result<ReadFiles, InputFault>
+    requires { F.IsAlwaysCallable read }
+    ensures read { IfOk result
+        (HasRead (λ input file. F.post read input (Ok file)) W.program inputs.items) }
+    ensures fault { IfErr result (IsFaultIn (λ input fault. F.post read input (Err fault)) inputs.items) }
+{
+    let (files, faults) = read_all::<W, R, T, F>(rt, alloc, inputs, read)?;
+    Ok(ReadFiles { files, faults })
 }

@@ -1,19 +1,18 @@
 //! Recorded histories are served by a host, and the report is written.
 
-ghost use Rattle.std.specs.Prelude.{◌≡◌, ◌≢◌, Ok, Err, IfOk, IfErr, OnErr, All, map, vec_len};
-ghost use Rattle.std.specs.Io.KnownBytes.{Appends};
+ghost use Rattle.std.specs.Prelude.{◌≡◌, ◌≢◌, Ok, Err, IfOk, IfErr, All, map, vec_len};
 ghost use Rattle.wh_file_faults.specs.Faults.{AreFaultsOf};
 ghost use Rattle.wh_host.specs.Machine.{IsConfig};
-ghost use Rattle.wh_service.specs.Readings.{reading, reading_of};
-ghost use Rattle.wh_service.specs.Services.{HasItsTurns, IsHost, IsHosted, IsServiceEnd, IsServiceEndOver};
-ghost use Rattle.wh_service.specs.Services.{IsServiceOf, IsUnserved, IsUnwritten, leaves, status_of};
-ghost use Rattle.wh_service.specs.Texts.{service_text};
+ghost use Rattle.wh_service.specs.Readings.{reading, reading_of, readings_of};
+ghost use Rattle.wh_service.specs.Services.{HasItsTurns, IsEndOf, IsHost, IsHosted, IsServed, IsServiceEnd};
+ghost use Rattle.wh_service.specs.Services.{IsServiceEndOver, IsServiceOf, IsUnserved, IsUnwritten, leaves};
+ghost use Rattle.wh_service.specs.Services.{status_of};
 
 use crate::assignment::assign_sources;
 use crate::failures::FileFailure;
 use crate::host::{ServiceHost, ServiceSetup, host_of};
 use crate::outcomes::{Service, gather};
-use crate::readings::{ReadFile, read_all};
+use crate::readings::{ReadFile, ReadFiles, read_inputs};
 use crate::rows::{are_good, write_service};
 use std::alloc::Global;
 use std::io::Write;
@@ -32,7 +31,7 @@ use wh_workflow::Workflow;
 pub enum ServiceFault {
     /// An input cannot be read, or there was no memory to read the inputs. Nothing is written.
     Input { fault: InputFault },
-    /// There is no full report: where the fault is `Output` part of it may be written, and else
+    /// There is no full report: if the fault is `Output` part of it may be written, and else
     /// nothing is.
     Report { fault: CommandFault },
 }
@@ -98,30 +97,59 @@ pub struct ServiceEnd {
     /// The failed tasks, in the order of the files and, within a file, of its tasks.
     pub failures: Vec<FileFailure>,
     /// Whether the last task of a history that was served has a record: it is completed in the
-    /// history. A task is compared with its record where the next one is replayed, so this record
+    /// history. A task is compared with its record when the next one is replayed, so this record
     /// was compared with nothing, whether a task failed or not.
     pub uncompared: bool,
     /// Whether no worker has a fault: no call of its source failed. After a fault a worker goes on,
     /// so all tasks may be completed beside one.
     pub faultless: bool,
-    /// Where files are no JSON and for which workflow types there is no code, in the order of the
+    /// Where files are no JSON and which workflow types are not registered, in the order of the
     /// files.
     pub file_faults: Vec<FileFault>,
 }
 
-/// Writes the report of a service, and gives what else is reported of it.
-fn report<O: Write>(
-    service: Service,
-    file_faults: Vec<FileFault>,
-    writer: &mut O,
-) -> Result<ServiceEnd, CommandFault>
-    ensures written { IfOk result (λ end.
-        Appends (O.contents writer.old) (O.contents writer.new) (service_text service.rows.items service.totals)
-        × (end.status ≡ status_of service.faultless service.rows.items service.totals)
-        × (end.failures.items ≡ service.failures.items) × (end.uncompared ≡ service.uncompared)
-        × (end.faultless ≡ service.faultless) × (end.file_faults.items ≡ file_faults.items)) }
+/// What a host left of files that it served, whose report is not written yet.
+#[derive(Drop)]
+pub struct Served {
+    pub(crate) service: Service,
+    pub(crate) file_faults: Vec<FileFault>,
+}
+
+/// Serves the tasks of files that were read by a host of these sizes. File by file the workers are
+/// assigned the histories in turn. Of equal names each has the counts and the failed tasks of the
+/// first that its worker was assigned. `host` runs the host, as `host_of` does.
+pub fn serve_read<F: Fn(Config, Vec<ServiceSetup>) -> Result<ServiceHost, OutOfMemory>>(
+    alloc: Global,
+    read: ReadFiles,
+    config: Config,
+    host: F,
+) -> Result<Served, OutOfMemory>
+where
+    F: Drop,
+    requires sizes { IsConfig config }
+    requires runs { IsHost (F.pre host) (leaves (F.post host)) }
+    ensures served { IfOk result
+        (IsServed (leaves (F.post host)) config (readings_of read) read.faults.items) }
+{
+    let ReadFiles { files, faults } = read;
+    let service = serve_all(alloc, files, config, host)?;
+    Ok(Served {
+        service,
+        file_faults: faults,
+    })
+}
+
+/// Writes the report of files that were served, a line for each file in their order, then the
+/// totals, and returns what else is reported of them. The fault is `Output`; then part of the
+/// report may be written.
+pub fn report_served<O: Write>(served: Served, writer: &mut O) -> Result<ServiceEnd, CommandFault>
+    ensures written { IfOk result (IsEndOf served (O.contents writer.old) (O.contents writer.new)) }
     ensures output { result ≢ Err CommandFault.OutOfMemory }
 {
+    let Served {
+        service,
+        file_faults,
+    } = served;
     let status = status_of(&service);
     let Service {
         rows,
@@ -142,11 +170,11 @@ fn report<O: Write>(
     }
 }
 
-/// Serves the tasks of files that were read, of some of which a fault is reported, and writes the
-/// report. Nothing is written where the answer is `OutOfMemory`.
-fn serve_read<F: Fn(Config, Vec<ServiceSetup>) -> Result<ServiceHost, OutOfMemory>, O: Write>(
+/// Serves the tasks of files that were read, and writes the report. Nothing is written if the
+/// answer is `OutOfMemory`.
+fn serve_and_report<F: Fn(Config, Vec<ServiceSetup>) -> Result<ServiceHost, OutOfMemory>, O: Write>(
     alloc: Global,
-    read: (Vec<ReadFile>, Vec<FileFault>),
+    read: ReadFiles,
     config: Config,
     writer: &mut O,
     host: F,
@@ -155,26 +183,25 @@ where
     F: Drop,
     requires sizes { IsConfig config }
     requires runs { IsHost (F.pre host) (leaves (F.post host)) }
-    ensures report { IfOk result (IsServiceEnd (leaves (F.post host)) config (map reading read.0.items)
+    ensures report { IfOk result (IsServiceEnd (leaves (F.post host)) config (readings_of read)
         (O.contents writer.old) (O.contents writer.new)) }
-    ensures faults { IfOk result (λ end. end.file_faults.items ≡ read.1.items) }
+    ensures faults { IfOk result (λ end. end.file_faults.items ≡ read.faults.items) }
     ensures unwritten { result ≡ Err CommandFault.OutOfMemory → writer.new ≡ writer.old }
 {
-    let (files, file_faults) = read;
-    let Ok(service) = serve_all(alloc, files, config, host) else {
+    let Ok(served) = serve_read(alloc, read, config, host) else {
         return Err(CommandFault::OutOfMemory);
     };
-    report(service, file_faults, writer)
+    report_served(served, writer)
 }
 
-/// Reads inputs, serves their tasks by a host of these sizes, and writes the report: a line for each
-/// input in their order, then the totals. Each input is read, and parsed, in a thread. File by file
-/// the workers are assigned the histories in turn. Of equal names each has the counts and the failed
-/// tasks of the first that its worker was assigned. `host` runs the host, as `host_of` does.
+/// Reads inputs, serves their tasks by a host of these sizes, and writes the report: a line for
+/// each input in their order, then the totals. Each input is read, and parsed, in a thread. File by
+/// file the workers are assigned the histories in turn. Of equal names each has the counts and the
+/// failed tasks of the first that its worker was assigned. `host` runs the host, as `host_of` does.
 ///
-/// `Input` has the fault of an input that cannot be read, as `read` gives it, or there was no memory;
-/// nothing is written then. Where the fault is `Report` with `OutOfMemory` nothing is written either,
-/// and with `Output` part of the report may be.
+/// `Input` has the fault of an input that can't be read, as `read` returns it, or there was no
+/// memory; nothing is written then. If the fault is `Report` with `OutOfMemory` nothing is written
+/// either, and with `Output` part of the report may be.
 pub fn serve_inputs<
     W: Workflow + Send,
     R: Threads + Sync,
@@ -201,18 +228,18 @@ where
     ensures fault { IfErr result (IsUnserved (λ input fault. G.post read input (Err fault)) inputs.items) }
     ensures unwritten { IfErr result (λ fault. IsUnwritten fault → writer.new ≡ writer.old) }
 {
-    let read = match read_all::<W, R, T, G>(rt, alloc, inputs, read) {
+    let read = match read_inputs::<W, R, T, G>(rt, alloc, inputs, read) {
         Ok(read) => read,
         Err(fault) => return Err(ServiceFault::Input { fault }),
     };
-    match serve_read(alloc, read, config, writer, host) {
+    match serve_and_report(alloc, read, config, writer, host) {
         Ok(end) => Ok(end),
         Err(fault) => Err(ServiceFault::Report { fault }),
     }
 }
 
-/// Serves the tasks of files that are there already, as `serve_inputs` does those of inputs. Nothing
-/// is written where the answer is `OutOfMemory`.
+/// Serves the tasks of files that are there already, as `serve_inputs` does those of inputs.
+/// Nothing is written if the answer is `OutOfMemory`.
 pub fn serve_files<W: Workflow + Send, R: Threads + Wait + Sync, O: Write>(
     rt: &R,
     alloc: Global,

@@ -1,7 +1,7 @@
 use Rattle.std.specs.Prelude.{Ok, Err}
 use Rattle.wh_service.specs.Readings.{IsReading}
 use Rattle.wh_file_faults.proofs.Collected.{all_err, all_ok, fault_in, of_files}
-use Rattle.wh_service.proofs.ReadFiles.{are_read}
+use Rattle.wh_service.proofs.FilesRead.{are_read}
 use Rattle.wh_service.proofs.readings.read_all.Goals as goal
 
 -- what was read of the inputs is the readings of the files that they were read as

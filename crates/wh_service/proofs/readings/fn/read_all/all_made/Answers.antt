@@ -1,5 +1,5 @@
 use Rattle.std.specs.Prelude.{Ok, Err}
-use Rattle.wh_service.proofs.ReadFiles.{made_of_file}
+use Rattle.wh_service.proofs.FilesRead.{made_of_file}
 use Rattle.wh_service.proofs.readings.fn.read_all.all_made.Goals as goal
 
 -- what was read is that of the file that the input was read as
