@@ -301,7 +301,8 @@ def judge_way(page):
     rows = re.findall(r'<g class="row( taken)?"><rect [^>]*/><text class="([^"]*)"', section)
     wanted = [(1, "name passed"), (1, "name last"), (0, "name again"), (1, "name again"), (0, "name again")]
     wrong = [] if [(bool(taken), name) for taken, name in rows] == wanted else [f"the table marks {rows}"]
-    if "Jobs for which the run took a row: 3. It stands in the state <strong>" not in section or 'class="end last"' in section:
+    stands = "Jobs for which the run took a row: 3. After its last replayed task it stands in the state <strong>"
+    if stands not in section or 'class="end last"' in section:
         wrong.append("the table says otherwise where the run stands")
     return wrong
 

@@ -1,10 +1,11 @@
--- The table of a run, with the way that the run took through its rows.
-use Rattle.std.specs.Prelude.{◌≡◌, ℕ, Bool, true, false, if◌then◌else◌, List, [], ◌∷◌, length, map, codes, Option, Some, None}
+-- The table of a run, with the path that the run took through its rows.
+use Rattle.std.specs.Prelude.{◌≡◌, ◌↔◌, ℕ, IsSome, Bool, true, false, if◌then◌else◌, List, [], ◌∷◌, length, map, codes, Option, Some, None}
 use Rattle.std.specs.Option.{option_map}
 use Rattle.wh_events.specs.declared.event.Payload.{Payload}
 use Rattle.wh_html.specs.Html.{Html, nothing, markup, hole, ◌⊕◌, number}
 use Rattle.wh_run_way.specs.declared.way.Way.{Way}
 use Rattle.wh_run_way.specs.Ways.{IsWayOf}
+use Rattle.wh_run_way.specs.Brought.{BringsTable}
 use Rattle.wh_table_picture.specs.declared.layout.Line.{Line}
 use Rattle.wh_table_picture.specs.declared.marks.Marks.{Marks}
 use Rattle.wh_table_picture.specs.Drawings.{table_lines}
@@ -13,7 +14,7 @@ use Rattle.wh_table_picture.specs.Pictures.{marked_html}
 use Rattle.wh_table_picture.specs.Without.{without_words}
 use Rattle.wh_file_page.specs.declared.run_table.RunTable.{RunTable}
 
--- what is marked of a way: its rows and their states, and the state that it stands in
+-- what is marked of a path: its rows and their states, and the state that it leads to
 abbrev pub marks_of : Way → Marks
 marks_of way = record {
   rows = map (λ turn. turn.row) way.turns;
@@ -26,7 +27,7 @@ abbrev pub lines_of : Marks → List Payload → List Line
 lines_of marks [] = []
 lines_of marks (first ∷ others) = marked marks (table_lines first.content)
 
--- the table of a run with this way
+-- the table of a run with this path
 abbrev pub run_table : Way → RunTable
 run_table way = record {
   lines = lines_of (marks_of way) way.left.payload;
@@ -35,22 +36,24 @@ run_table way = record {
   closed = way.left.run.closed;
 }
 
--- that of the run of a history file, if it brought one
+-- that of the run of a history file, which is there exactly if the run brings a table and a workflow task was started
 pub record IsTableIn (bytes : List ℕ) (table : Option RunTable) : Type 0 where
   pub way : Option Way
   pub took : IsWayOf bytes way
   pub is : table ≡ option_map run_table way
+  pub brought : IsSome table ↔ BringsTable bytes
 
 -- the same, but none where nothing is replayed
 abbrev pub IsTableOf : (only_recorded : Bool) → (bytes : List ℕ) → Option RunTable → Type 0
 IsTableOf true bytes table = table ≡ None
 IsTableOf false bytes table = IsTableIn bytes table
 
--- where a run stands
+-- where a run stands after its last replayed task, whatever its history has after that
 abbrev pub standing_html : RunTable → Html
 standing_html table =
-    if table.closed then markup (codes "It is closed.")
-    else markup (codes "It stands in the state <strong>") ⊕ hole 100 table.state ⊕ markup (codes "</strong>.")
+    if table.closed then markup (codes "After its last replayed task it is closed.")
+    else markup (codes "After its last replayed task it stands in the state <strong>") ⊕ hole 100 table.state
+    ⊕ markup (codes "</strong>.")
 
 -- the section of the table of a run
 abbrev pub section_html : RunTable → Html

@@ -91,10 +91,10 @@ fn write_page<O: Write>(own: &Prepared, writer: &mut O) -> io::Result<()>
 /// the verdict is about. The status is that of the report: 0 where the verdict is good, and else 1.
 /// With `only_recorded` nothing is replayed, the page has no verdict, and the status is 0.
 ///
-/// Where the type is `Table` or `Table:NAME`, and the first payload of the start's input is a table,
-/// the page has that table as `wh_table_picture` draws it, with marks at the rows that the run takes
-/// in a replay, up to its fault where it has one. This does not depend on `W`. With `only_recorded`
-/// there is none.
+/// If the type is `Table` or `Table:NAME`, the first payload of the start's input is a table and a
+/// workflow task was started, the page has that table as `wh_table_picture` draws it, with marks at
+/// the rows that the run takes in a replay, up to its fault where it has one. This does not depend
+/// on `W`. Otherwise, and with `only_recorded`, the page has no table.
 ///
 /// `Unviewed` where the bytes have no list of events. Nothing is written then, nor where the answer
 /// is `OutOfMemory`; after `Output` some of the page may have been written.

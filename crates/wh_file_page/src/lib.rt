@@ -1,5 +1,5 @@
 //! The page of a history file: of what its bytes hold, with the verdict of its replay and both sides
-//! of a difference, or with nothing replayed. A run that brought its table shows the way that it
+//! of a difference, or with nothing replayed. A run that brought its table shows the path that it
 //! took through the rows.
 #![tactic(auto)]
 

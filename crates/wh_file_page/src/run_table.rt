@@ -1,4 +1,4 @@
-//! The table of a run, with the way that the run took through its rows.
+//! The table of a run, with the path that the run took through its rows.
 ghost use Rattle.std.specs.Prelude.{◌≡◌, IfOk, Some};
 ghost use Rattle.std.specs.Option.{option_map};
 ghost use Rattle.wh_html.specs.Html.{bytes};
@@ -13,20 +13,20 @@ use wh_run_way::{Way, way_of};
 use wh_table_picture::{Line, MarkedPicture, Marks, marked_table};
 use wh_workflow::text_of;
 
-/// The table of a run, with the way that the run took through its rows.
+/// The table of a run, with the path that the run took through its rows.
 #[derive(Drop)]
 pub struct RunTable {
     /// Its rows, with their marks.
     pub(crate) lines: Items<Line>,
     /// For how many jobs the run took a row.
     pub(crate) taken: usize,
-    /// The state that it stands in.
+    /// The state that it stands in after its last replayed task.
     pub(crate) state: Text,
-    /// Whether it is closed.
+    /// Whether it is closed then.
     pub(crate) closed: bool,
 }
 
-/// What is marked of a way.
+/// Returns what is marked of a path.
 fn marks_of(alloc: Global, way: &Way) -> Result<Marks, OutOfMemory>
     ensures { IfOk result (λ marks. marks ≡ marks_of way.now) }
 {
@@ -59,7 +59,7 @@ fn lines_of(alloc: Global, marks: &Marks, payloads: &[Payload]) -> Result<Items<
     }
 }
 
-/// The table of a run with this way.
+/// Returns the table of a run with this path.
 fn run_table(alloc: Global, way: &Way) -> Result<RunTable, OutOfMemory>
     ensures { IfOk result (λ table. table ≡ run_table way.now) }
 {
@@ -72,7 +72,8 @@ fn run_table(alloc: Global, way: &Way) -> Result<RunTable, OutOfMemory>
     })
 }
 
-/// The table of the run of a history file, if it brought one.
+/// Returns the table of the run of a history file, if it brings one and a workflow task of it was
+/// started.
 fn table_in(alloc: Global, bytes: &[u8]) -> Result<Option<RunTable>, OutOfMemory>
     ensures { IfOk result (IsTableIn bytes.now) }
 {
@@ -82,7 +83,7 @@ fn table_in(alloc: Global, bytes: &[u8]) -> Result<Option<RunTable>, OutOfMemory
     }
 }
 
-/// The same, but none where only what is recorded is asked for.
+/// Returns the same, but `None` if only what is recorded is asked for.
 pub(crate) fn table_as(
     alloc: Global,
     bytes: &[u8],
@@ -97,7 +98,7 @@ pub(crate) fn table_as(
     }
 }
 
-/// Where a run stands.
+/// Where a run stands after its last replayed task.
 #[derive(Drop)]
 struct Standing<'a>(&'a RunTable);
 
@@ -106,13 +107,16 @@ impl fmt::Display for Standing<'_> {
 
     fn fmt<W: fmt::Write>(&self, f: &mut fmt::Formatter<W>) -> fmt::Result {
         if self.0.closed {
-            return write!(f, "It is closed.");
+            return write!(f, "After its last replayed task it is closed.");
         }
         let state = Escaped {
             text: &self.0.state,
             most: 100,
         };
-        write!(f, "It stands in the state <strong>{state}</strong>.")
+        write!(
+            f,
+            "After its last replayed task it stands in the state <strong>{state}</strong>."
+        )
     }
 }
 

@@ -1,2 +1,5 @@
 pub mod Starting
 pub mod Taking
+pub mod Given
+pub mod Opening
+pub mod Bringing

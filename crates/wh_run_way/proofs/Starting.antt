@@ -14,7 +14,7 @@ use Rattle.wh_row_rules.specs.Broken.{definition}
 use Rattle.wh_table_text.specs.declared.fault.TableFault.{TableFault}
 use Rattle.wh_table.specs.declared.state.TableState.{TableState}
 use Rattle.wh_table.specs.Program.{opened, front, tail, table_in, after}
-use Rattle.wh_run_way.specs.Ways.{place_from, place_for, turn_to, turn_at_start, turn_at}
+use Rattle.wh_run_way.specs.Ways.{number_from, number_for, turn_to, turn_at_start, turn_at}
 
 -- whatever a start brings, the same patterns are for it
 for_start : (one : JobPattern) (state other : RowsState) (kind : List ℕ) (input rest : List Payload)
@@ -39,30 +39,30 @@ module _ (name_of : List Payload → List ℕ) (state : RowsState) (kind : List 
       ap (λ wanted. is_for_state row.state state && wanted && all_hold row.conditions state.counts)
       (for_start row.job state (started name_of state (jobs.Start kind rest)) kind input rest)
 
-  place_start : (place : ℕ) (rows : List Row)
-      → place_from place rows state (jobs.Start kind input)
-      ≡ place_from place rows (started name_of state (jobs.Start kind rest)) (jobs.Start kind rest)
-  place_start place [] = refl
-  place_start place (row ∷ rows) =
-      ap₂ (λ first later. if first then Some place else later) (fits_start row) (place_start (place + 1) rows)
+  number_start : (number : ℕ) (rows : List Row)
+      → number_from number rows state (jobs.Start kind input)
+      ≡ number_from number rows (started name_of state (jobs.Start kind rest)) (jobs.Start kind rest)
+  number_start number [] = refl
+  number_start number (row ∷ rows) =
+      ap₂ (λ first later. if first then Some number else later) (fits_start row) (number_start (number + 1) rows)
 
 -- the row that is taken at the start, by the table that the start leaves
 start_turn : (kind : List ℕ) (payload input rest : List Payload) (table : Result OwnedTable TableFault)
     → let left = (opened kind payload table (jobs.Start kind rest)).table in
-    turn_to left.first (place_for left.rows (initial (definition left)) (jobs.Start kind input))
+    turn_to left.first (number_for left.rows (initial (definition left)) (jobs.Start kind input))
     ≡ turn_at_start table (jobs.Start kind rest)
-start_turn kind payload input rest (Ok table) = ap (turn_to table.first) (place_start (name_by table.name) (initial (definition table)) kind input rest 0 table.rows)
+start_turn kind payload input rest (Ok table) = ap (turn_to table.first) (number_start (name_by table.name) (initial (definition table)) kind input rest 1 table.rows)
 start_turn kind payload input rest (Err fault) = refl
 
 -- the row that is taken at a job that is the start
 pub start_taken : (state left : TableState) (job : Job) (kind : List ℕ) (input : List Payload)
     → job ≡ jobs.Start kind input → left ≡ after state job
-    → turn_to left.table.first (place_for left.table.rows (initial (definition left.table)) job) ≡ turn_at state job
+    → turn_to left.table.first (number_for left.table.rows (initial (definition left.table)) job) ≡ turn_at state job
 start_taken state left job kind input starts leaves =
     subst (λ given. left ≡ after state given
-    → turn_to left.table.first (place_for left.table.rows (initial (definition left.table)) given) ≡ turn_at state given)
+    → turn_to left.table.first (number_for left.table.rows (initial (definition left.table)) given) ≡ turn_at state given)
     (sym starts)
     (λ same.
-    ap (λ (now : TableState). turn_to now.table.first (place_for now.table.rows (initial (definition now.table)) (jobs.Start kind input))) same
+    ap (λ (now : TableState). turn_to now.table.first (number_for now.table.rows (initial (definition now.table)) (jobs.Start kind input))) same
     ∙ start_turn kind (front input) input (tail input) (table_in input))
     leaves

@@ -1,13 +1,14 @@
--- What holds of each way.
-use Rattle.std.specs.Prelude.{◌≡◌, List, slice_get}
+-- What holds of each path.
+use Rattle.std.specs.Prelude.{◌≡◌, ◌-◌, List, slice_get}
 use Rattle.std.specs.Option.{option_and_then}
 use Rattle.wh_workflow.specs.declared.job.Job.{Job}
 use Rattle.wh_rows.specs.declared.row.RowsState.{RowsState}
 use Rattle.wh_rows.specs.Tables.{Row}
 use Rattle.wh_rows.specs.Rows.{row_for}
-use Rattle.wh_run_way.specs.Ways.{place_for}
+use Rattle.wh_run_way.specs.Ways.{number_for}
 
--- the row at the place that is taken is the one that a step follows
+-- the row whose number is found is the one that a step follows
 abbrev pub TakesWhatIsFollowed : Type 0
 TakesWhatIsFollowed =
-    (rows : List Row) (state : RowsState) (job : Job) → option_and_then (slice_get rows) (place_for rows state job) ≡ row_for rows state job
+    (rows : List Row) (state : RowsState) (job : Job)
+    → option_and_then (λ number. slice_get rows (number - 1)) (number_for rows state job) ≡ row_for rows state job

@@ -1,4 +1,4 @@
--- The way of a run through the rows of its table.
+-- The path of a run through the rows of its table.
 use Rattle.std.specs.Prelude.{◌≡◌, ℕ, ◌+◌, nat_eq, List, [], ◌∷◌, ◌++◌, length, codes, Option, Some, None, Result, Ok, Err, if◌then◌else◌}
 use Rattle.wh_json.specs.Events.{history}
 use Rattle.wh_workflow.specs.declared.job.Job.{Job}
@@ -17,24 +17,24 @@ use Rattle.wh_table.specs.Program.{tail, table_in, program}
 use Rattle.wh_run_way.specs.declared.way.Turn.{Turn}
 use Rattle.wh_run_way.specs.declared.way.Way.{Way}
 
--- the place of the first row that fits, where the first of these has that place
-abbrev pub place_from : (place : ℕ) → List Row → RowsState → Job → Option ℕ
-place_from place [] state job = None
-place_from place (row ∷ rows) state job =
-    if fits row state job then Some place else place_from (place + 1) rows state job
+-- the number of the first row that fits, where the first of these has that number
+abbrev pub number_from : (number : ℕ) → List Row → RowsState → Job → Option ℕ
+number_from number [] state job = None
+number_from number (row ∷ rows) state job =
+    if fits row state job then Some number else number_from (number + 1) rows state job
 
--- the place of the first row that fits, counted from 0
-abbrev pub place_for : List Row → RowsState → Job → Option ℕ
-place_for rows state job = place_from 0 rows state job
+-- the number of the first row that fits, counted from 1
+abbrev pub number_for : List Row → RowsState → Job → Option ℕ
+number_for rows state job = number_from 1 rows state job
 
--- the row at that place was taken in the state of that name, if one was
+-- the row of that number was taken in the state of that name, if one was
 abbrev pub turn_to : List ℕ → Option ℕ → List Turn
 turn_to name None = []
 turn_to name (Some row) = record { state = name; row = row } ∷ []
 
 -- the row that a run of a table takes at a job
 abbrev pub turn_in : Definition → RowsState → Job → List Turn
-turn_in table state job = turn_to state.at (place_for table.rows (seen_by table state job) job)
+turn_in table state job = turn_to state.at (number_for table.rows (seen_by table state job) job)
 
 -- the same at its start, if its table stands
 abbrev pub turn_at_start : Result OwnedTable TableFault → Job → List Turn
@@ -61,7 +61,7 @@ abbrev pub left_by : TableState → List ExplainedTask → TableState
 left_by state [] = state
 left_by state (task ∷ tasks) = left_by (state_after program state task.steps) tasks
 
--- the way of a run that is left so, if it has a table
+-- the path of a run that is left so, if it has a table
 abbrev pub way_to : TableState → List Turn → Option Way
 way_to left turns = if nat_eq (length left.table.rows) 0 then None else Some (record { turns = turns; left = left })
 
@@ -69,11 +69,11 @@ way_to left turns = if nat_eq (length left.table.rows) 0 then None else Some (re
 abbrev pub before_start : TableState
 before_start = program.initial (codes "Table")
 
--- the way of a run over its tasks
+-- the path of a run over its tasks
 abbrev pub way_over : List ExplainedTask → Option Way
 way_over tasks = way_to (left_by before_start tasks) (turns_of before_start tasks)
 
--- the way of the run of a history file: over the tasks that replay gives to the workflow, up to the first that has a fault
+-- the path of the run of a history file: over the tasks that replay gives to the workflow, up to the first with a fault
 pub record IsWayOf (bytes : List ℕ) (way : Option Way) : Type 0 where
   pub tasks : List ExplainedTask
   pub explained : AreTasksIn program (history bytes) tasks

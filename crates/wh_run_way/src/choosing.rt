@@ -1,7 +1,7 @@
 //! Which row a run takes.
 ghost use Rattle.std.specs.Prelude.{◌≡◌};
 ghost use Rattle.wh_rows.specs.Rows.{fits, is_for_state};
-ghost use Rattle.wh_run_way.specs.Ways.{place_for};
+ghost use Rattle.wh_run_way.specs.Ways.{number_for};
 
 use wh_row_rules::OwnedRow;
 use wh_rows::{RowsState, all_hold, is_for_job};
@@ -23,13 +23,13 @@ fn fits(row: &OwnedRow, state: &RowsState, job: &Job) -> bool
         && all_hold(row.conditions.get(), state.counts)
 }
 
-/// The place of the first row that fits, counted from 0.
-pub(crate) fn place_for(rows: &[OwnedRow], state: &RowsState, job: &Job) -> Option<usize>
-    ensures { result ≡ place_for rows.now state.now job.now }
+/// Returns the number of the first row that fits, counted from 1.
+pub(crate) fn number_for(rows: &[OwnedRow], state: &RowsState, job: &Job) -> Option<usize>
+    ensures { result ≡ number_for rows.now state.now job.now }
 {
     for (place, row) in rows.iter().enumerate() {
         if fits(row, state, job) {
-            return Some(place);
+            return Some(place + 1);
         }
     }
     None

@@ -1,13 +1,14 @@
 //! Follows a run through the rows of its table.
-ghost use Rattle.std.specs.Prelude.{◌≡◌, ◌++◌, IfOk, OnOk};
+ghost use Rattle.std.specs.Prelude.{◌≡◌, ◌++◌, ◌↔◌, IfOk, IsSome, OnOk};
 ghost use Rattle.wh_workflow.specs.ActivationScripts.{state_after};
 ghost use Rattle.wh_rows.specs.Rows.{initial};
 ghost use Rattle.wh_row_rules.specs.Broken.{definition};
 ghost use Rattle.wh_table.specs.Program.{program};
-ghost use Rattle.wh_run_way.specs.Ways.{IsWayOf, before_start, left_by, place_for, turn_at, turn_to};
+ghost use Rattle.wh_run_way.specs.Ways.{IsWayOf, before_start, left_by, number_for, turn_at, turn_to};
 ghost use Rattle.wh_run_way.specs.Ways.{turns_of, turns_over, way_over, way_to};
+ghost use Rattle.wh_run_way.specs.Brought.{BringsTable};
 
-use crate::choosing::place_for;
+use crate::choosing::number_for;
 use crate::way::{Turn, Way};
 use std::alloc::Global;
 use wh_events::{Items, OutOfMemory};
@@ -17,16 +18,16 @@ use wh_rows::{RowsState, StateName};
 use wh_table::{TableState, TableWorkflow};
 use wh_workflow::{Job, Meter, Workflow, text_of};
 
-/// Adds the row at a place, if one was taken, in the state of that name.
+/// Adds the row of a number, if one was taken, in the state of that name.
 fn add_turn(
     alloc: Global,
     turns: &mut Vec<Turn>,
     name: &str,
-    place: Option<usize>,
+    number: Option<usize>,
 ) -> Result<(), OutOfMemory>
-    ensures { OnOk result (turns.new.items ≡ turns.old.items ++ turn_to name.now place) }
+    ensures { OnOk result (turns.new.items ≡ turns.old.items ++ turn_to name.now number) }
 {
-    if let Some(row) = place {
+    if let Some(row) = number {
         let state = text_of(alloc, name)?;
         turns.push(Turn { state, row })?;
     }
@@ -56,12 +57,12 @@ fn note_start(
     job: &Job,
     turns: &mut Vec<Turn>,
 ) -> Result<(), OutOfMemory>
-    ensures { let place = place_for table.now.rows (initial (definition table.now)) job.now in
-        OnOk result (turns.new.items ≡ turns.old.items ++ turn_to table.now.first place) }
+    ensures { let number = number_for table.now.rows (initial (definition table.now)) job.now in
+        OnOk result (turns.new.items ≡ turns.old.items ++ turn_to table.now.first number) }
 {
     let run = first_run(alloc, table)?;
-    let place = place_for(table.rows.get(), &run, job);
-    add_turn(alloc, turns, table.first.get(), place)
+    let number = number_for(table.rows.get(), &run, job);
+    add_turn(alloc, turns, table.first.get(), number)
 }
 
 /// Gives a run a job.
@@ -87,8 +88,8 @@ fn follow_job(
         give(alloc, state, job)?;
         return note_start(alloc, &state.table, job, turns);
     }
-    let place = place_for(state.table.rows.get(), &state.run, job);
-    add_turn(alloc, turns, state.run.at.get(), place)?;
+    let number = number_for(state.table.rows.get(), &state.run, job);
+    add_turn(alloc, turns, state.run.at.get(), number)?;
     give(alloc, state, job)
 }
 
@@ -124,7 +125,7 @@ fn follow_tasks(
     Ok(())
 }
 
-/// The way to where a run stands, if it has a table.
+/// Returns the path to where a run stands, if it has a table.
 fn way_to(left: TableState, turns: Vec<Turn>) -> Option<Way>
     ensures { result ≡ way_to left turns.items }
 {
@@ -137,7 +138,7 @@ fn way_to(left: TableState, turns: Vec<Turn>) -> Option<Way>
     })
 }
 
-/// The way of a run over its tasks, if it has a table.
+/// Returns the path of a run over its tasks, if it has a table.
 fn way_over(alloc: Global, tasks: &[ExplainedTask]) -> Result<Option<Way>, OutOfMemory>
     ensures { IfOk result (λ way. way ≡ way_over tasks.now) }
 {
@@ -147,16 +148,25 @@ fn way_over(alloc: Global, tasks: &[ExplainedTask]) -> Result<Option<Way>, OutOf
     Ok(way_to(state, turns))
 }
 
-/// The way of the run of a history file through the rows of its table: the rows that it takes at
-/// the jobs that replay gives it, in order, and where it stands behind them. Where the replay stops
-/// at a fault, it is the way up to there.
-///
-/// `None` where the file can't be read, where an event is not in place, where the workflow type is
-/// not `Table` or `Table:NAME`, and where the first payload of the start's input is no table.
-/// `OutOfMemory` where an allocation was refused.
-pub fn way_of(alloc: Global, bytes: &[u8]) -> Result<Option<Way>, OutOfMemory>
+/// Follows the run of a history file, with or without a table.
+fn follow(alloc: Global, bytes: &[u8]) -> Result<Option<Way>, OutOfMemory>
     ensures { IfOk result (IsWayOf bytes.now) }
 {
     let explained = explain::<TableWorkflow>(alloc, String::new(alloc), bytes)?;
     way_over(alloc, explained.tasks.get())
+}
+
+/// Returns the path of the run of a history file through the rows of its table: the rows that it
+/// takes at the jobs that replay gives it, in order, and where it stands after them. Where the
+/// replay stops at a fault, it is the path up to there.
+///
+/// `None` exactly when the file can't be read, an event is not in place, the workflow type is not
+/// `Table` or `Table:NAME`, no workflow task was started, or the first payload of the start's input
+/// is no table: a run takes rows only at the jobs of its workflow tasks. `OutOfMemory` where an
+/// allocation was refused.
+pub fn way_of(alloc: Global, bytes: &[u8]) -> Result<Option<Way>, OutOfMemory>
+    ensures way { IfOk result (IsWayOf bytes.now) }
+    ensures there { IfOk result (λ way. IsSome way ↔ BringsTable bytes.now) }
+{
+    follow(alloc, bytes)
 }

@@ -1,7 +1,7 @@
-//! What holds of each way, as the contract of a function that does nothing.
+//! What holds of each path, as the contract of a function that does nothing.
 ghost use Rattle.wh_run_way.specs.Laws.{TakesWhatIsFollowed};
 
-/// The row at the place that is taken is the one that a step of the workflow follows.
+/// The row whose number is found is the one that a step of the workflow follows.
 pub fn takes_what_is_followed()
     ensures { TakesWhatIsFollowed }
 {}

@@ -1,4 +1,4 @@
-//! The way of a run through the rows of its table: which rows it took, and where it stands.
+//! The path of a run through the rows of its table: which rows it took, and where it stands.
 #![tactic(auto)]
 
 mod choosing;

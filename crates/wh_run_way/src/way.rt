@@ -1,4 +1,4 @@
-//! What a way is.
+//! The path of a run through the rows of its table.
 
 use wh_events::{Items, Text};
 use wh_table::TableState;
@@ -8,15 +8,15 @@ use wh_table::TableState;
 pub struct Turn {
     /// The state that the run was in.
     pub state: Text,
-    /// The place of the row among those of the table, counted from 0.
+    /// The number of the row among those of the table, counted from 1.
     pub row: usize,
 }
 
-/// The way of a run through the rows of its table.
+/// The path of a run through the rows of its table.
 #[derive(Drop)]
 pub struct Way {
     /// The rows that it took, in order.
     pub turns: Items<Turn>,
-    /// Where it stands behind them, with its table.
+    /// Where it stands after them, with its table.
     pub left: TableState,
 }

@@ -9,7 +9,7 @@ use Rattle.wh_html.proofs.Alike.{Alike, is_inner, last, texts, both, none, mark,
 use Rattle.wh_table_picture.specs.declared.layout.Line.{Line}
 use Rattle.wh_table_picture.specs.declared.layout.StateMark.{StateMark}
 use Rattle.wh_table_picture.specs.declared.layout.StateMark.TheVariants.{Unmarked, Passed, Last}
-use Rattle.wh_table_picture.specs.Pictures.{mark_class, name_class, has_row, is_taken, row_class, end_class, conditions_html, gives_html, marks_html}
+use Rattle.wh_table_picture.specs.Pictures.{mark_class, name_class, is_taken, row_class, end_class, conditions_html, gives_html, marks_html}
 use Rattle.wh_table_picture.specs.Pictures.{edge_html, tip_html, way_html, state_html, job_html, commands_html}
 use Rattle.wh_table_picture.specs.Pictures.{row_html, marked_html}
 use Rattle.wh_table_picture.specs.Without.{letter_for, without_words}

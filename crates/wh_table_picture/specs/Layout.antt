@@ -1,5 +1,5 @@
 -- Where the rows of a table stand in its picture, and where they lead to.
-use Rattle.std.specs.Prelude.{ℕ, ◌+◌, false, ◌||◌, List, [], ◌∷◌, length, nat_eq, bytes_eq, codes, slice_get, Option, Some, None, if◌then◌else◌}
+use Rattle.std.specs.Prelude.{ℕ, ◌+◌, Bool, false, ◌||◌, List, [], ◌∷◌, length, nat_eq, bytes_eq, codes, slice_get, Option, Some, None, if◌then◌else◌}
 use Rattle.serde_json.specs.Data.{Data}
 use Rattle.wh_rows.specs.Tables.{Row}
 use Rattle.wh_rows.specs.Rows.{some_closes}
@@ -7,6 +7,11 @@ use Rattle.wh_table_text.specs.Numbered.{numbered}
 use Rattle.wh_table_picture.specs.declared.layout.Line.{Line}
 use Rattle.wh_table_picture.specs.declared.layout.StateMark.TheVariants.{Unmarked}
 use Rattle.wh_table_picture.specs.Cells.{words_at}
+
+-- one of these is the row of this number
+abbrev pub has_row : List ℕ → ℕ → Bool
+has_row [] number = false
+has_row (row ∷ rows) number = nat_eq row number || has_row rows number
 
 -- the place of the first row for the state, where the first of these has that place, or their end
 abbrev pub first_from : ℕ → List ℕ → List Row → ℕ

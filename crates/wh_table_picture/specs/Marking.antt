@@ -1,10 +1,11 @@
 -- What is marked in the picture of a table.
-use Rattle.std.specs.Prelude.{ℕ, List, Option, Some, None, map, nat_eq, bytes_eq, Bool, false, if◌then◌else◌}
+use Rattle.std.specs.Prelude.{ℕ, List, Option, Some, None, map, bytes_eq, Bool, false, if◌then◌else◌}
 use Rattle.std.specs.List.{list_any}
 use Rattle.wh_table_picture.specs.declared.layout.Line.{Line}
 use Rattle.wh_table_picture.specs.declared.layout.StateMark.{StateMark}
 use Rattle.wh_table_picture.specs.declared.layout.StateMark.TheVariants.{Unmarked, Passed, Last}
 use Rattle.wh_table_picture.specs.declared.marks.Marks.{Marks}
+use Rattle.wh_table_picture.specs.Layout.{has_row}
 
 -- the state is the last one
 abbrev pub is_last : Option (List ℕ) → List ℕ → Bool
@@ -21,7 +22,7 @@ state_mark marks state =
 -- a row with its marks
 abbrev pub marked_line : Marks → Line → Line
 marked_line marks line = record line {
-  taken = list_any (nat_eq line.place) marks.rows;
+  taken = has_row marks.rows line.number;
   mark = state_mark marks line.state;
 }
 

@@ -5,13 +5,14 @@ use Rattle.wh_table_check.specs.declared.checking.RowPath.{RowPath}
 use Rattle.wh_table_picture.specs.declared.layout.Line.{Line}
 use Rattle.wh_table_picture.specs.declared.layout.StateMark.{StateMark}
 use Rattle.wh_table_picture.specs.declared.layout.StateMark.TheVariants.{Unmarked, Passed, Last}
+use Rattle.wh_table_picture.specs.Layout.{has_row}
 use Rattle.wh_table_picture.specs.declared.style.TheConstants.{STYLE_OF_ROWS, STYLE_OF_MARKS}
 
 -- where a row begins, from above
 abbrev pub top_of : (place : ℕ) → ℕ
 top_of place = 10 + 46 * min place 400
 
--- how far to the right the ways to a place go
+-- how far to the right the lines to a place go
 abbrev pub lane_of : (place : ℕ) → ℕ
 lane_of place = 710 + 11 * min place 24
 
@@ -28,11 +29,6 @@ name_class begins mark = if begins then mark_class mark else codes "name again"
 -- how the box of the end stands, also where that is the last
 abbrev pub end_class : Bool → List ℕ
 end_class ended = if ended then codes "end last" else codes "end"
-
--- one of these is the row of this number
-abbrev pub has_row : List ℕ → ℕ → Bool
-has_row [] number = false
-has_row (row ∷ rows) number = nat_eq row number || has_row rows number
 
 -- one of the paths takes the row of this number
 abbrev pub is_taken : List RowPath → ℕ → Bool
@@ -68,7 +64,7 @@ edge_html place begins =
     ⊕ number (top_of place) ⊕ markup (codes "\"/>")
     else nothing
 
--- the tip of a way to a place
+-- the tip of a line to a place
 abbrev pub tip_html : (target : ℕ) → Html
 tip_html target =
     markup (codes "<path class=\"tip to") ⊕ number (target % 5) ⊕ markup (codes "\" d=\"M690 ") ⊕ number (top_of target + 14)

@@ -3,7 +3,7 @@ ghost use Rattle.std.specs.Prelude.{◌≡◌, ◌<◌, ◌+◌, ◌^◌, ◌++�
 ghost use Rattle.serde_json.specs.View.{view};
 ghost use Rattle.wh_table_text.specs.Numbered.{numbered};
 ghost use Rattle.wh_table_picture.specs.Cells.{words_at};
-ghost use Rattle.wh_table_picture.specs.Layout.{first_of, leads_to, line_of, line_at, lines_of};
+ghost use Rattle.wh_table_picture.specs.Layout.{first_of, has_row, leads_to, line_of, line_at, lines_of};
 
 use crate::cells::words_at;
 use serde_json::Value;
@@ -50,6 +50,18 @@ pub struct Line {
     pub taken: bool,
     /// How its state is marked.
     pub mark: StateMark,
+}
+
+/// Whether one of these is the row of this number.
+pub(crate) fn has_row(rows: &[usize], number: usize) -> bool
+    ensures { result ≡ has_row rows.now number }
+{
+    for row in rows {
+        if *row == number {
+            return true;
+        }
+    }
+    false
 }
 
 /// The place of the first row for the state, or the number of rows where there is none.

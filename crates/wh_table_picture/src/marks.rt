@@ -1,35 +1,23 @@
 //! What is marked in the picture of a table.
-ghost use Rattle.std.specs.Prelude.{◌≡◌, bytes_eq, nat_eq, IfOk};
+ghost use Rattle.std.specs.Prelude.{◌≡◌, bytes_eq, IfOk};
 ghost use Rattle.std.specs.List.{list_any};
 ghost use Rattle.wh_table_picture.specs.Drawings.{table_lines};
 ghost use Rattle.wh_table_picture.specs.Marking.{is_last, state_mark, marked_line, marked};
 
 use crate::drawing::{Words, table_words};
-use crate::layout::{Line, StateMark};
+use crate::layout::{Line, StateMark, has_row};
 use std::alloc::Global;
 use wh_events::{Items, OutOfMemory, Text};
 
-/// What is marked in the picture of a table: a way through its rows.
+/// What is marked in the picture of a table: a path through its rows.
 #[derive(Drop)]
 pub struct Marks {
-    /// The places of the rows that were taken, counted from 0.
+    /// The numbers of the rows that were taken, counted from 1.
     pub rows: Items<usize>,
     /// The names of the states that were passed.
     pub states: Items<Text>,
-    /// The name of the last one. `None` where the way leads to the end.
+    /// The name of the last one. `None` if the path leads to the end.
     pub last: Option<Text>,
-}
-
-/// Whether the row at the place is among those that were taken.
-fn is_taken(rows: &[usize], place: usize) -> bool
-    ensures { result ≡ list_any (nat_eq place) rows.now }
-{
-    for row in rows {
-        if place == *row {
-            return true;
-        }
-    }
-    false
 }
 
 /// Whether the state is among those that were passed.
@@ -71,7 +59,7 @@ fn state_mark(marks: &Marks, name: &Text) -> StateMark
 fn marked_line(marks: &Marks, line: Line) -> Line
     ensures { result ≡ marked_line marks.now line }
 {
-    let taken = is_taken(marks.rows.get(), line.place);
+    let taken = has_row(marks.rows.get(), line.number);
     let mark = state_mark(marks, &line.state);
     Line {
         taken,

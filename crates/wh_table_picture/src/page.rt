@@ -272,7 +272,7 @@ impl fmt::Display for States<'_> {
 }
 
 /// Writes the page of a table as one HTML file: the verdict, its faults and warnings, a picture of
-/// its states (inline SVG, no script), in which the rows of each way that breaks a promise are
+/// its states (inline SVG, no script), in which the rows of each path that breaks a promise are
 /// marked, and its rows as a table. Whatever the table holds stands there as text. After an error
 /// some of it may have been written.
 #[tactic(auto, unfolding(crate::specs::Pages::page_html))]

@@ -2,11 +2,11 @@
 ghost use Rattle.std.specs.Prelude.{◌≡◌, Some};
 ghost use Rattle.wh_html.specs.Html.{bytes, each};
 ghost use Rattle.wh_table_picture.specs.Pictures.{top_of, lane_of, name_class, conditions_html, gives_html, marks_html, edge_html};
-ghost use Rattle.wh_table_picture.specs.Pictures.{has_row, is_taken, row_class};
+ghost use Rattle.wh_table_picture.specs.Pictures.{is_taken, row_class};
 ghost use Rattle.wh_table_picture.specs.Pictures.{tip_html, way_to_html, way_html, state_html, job_html, commands_html};
 ghost use Rattle.wh_table_picture.specs.Pictures.{mark_class, end_class, row_html, drawn_html, picture_html, marked_html};
 
-use crate::layout::{Line, StateMark};
+use crate::layout::{Line, StateMark, has_row};
 use crate::style::{STYLE_OF_MARKS, STYLE_OF_ROWS};
 use std::fmt;
 use wh_events::Text;
@@ -20,7 +20,7 @@ fn top_of(place: usize) -> u64
     10 + 46 * (place.min(400) as u64)
 }
 
-/// How far to the right the ways to a place go.
+/// How far to the right the lines to a place go.
 fn lane_of(place: usize) -> u64
     ensures { result ≡ lane_of place }
 {
@@ -55,18 +55,6 @@ fn end_class(ended: bool) -> &'static str
     ensures { result.now ≡ end_class ended }
 {
     if ended { "end last" } else { "end" }
-}
-
-/// Whether one of these is the row of this number.
-fn has_row(rows: &[usize], number: usize) -> bool
-    ensures { result ≡ has_row rows.now number }
-{
-    for row in rows {
-        if *row == number {
-            return true;
-        }
-    }
-    false
 }
 
 /// Whether one of the paths takes the row of this number.
@@ -168,7 +156,7 @@ impl fmt::Display for Edge {
     }
 }
 
-/// The tip of a way to a place.
+/// The tip of a line to a place.
 #[derive(Clone, Copy)]
 struct Tip(usize);
 

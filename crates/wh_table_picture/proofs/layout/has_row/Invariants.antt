@@ -1,6 +1,6 @@
 use Rattle.std.proofs.Common.{◌≡◌, drop}
-use Rattle.wh_table_picture.specs.Pictures.{has_row}
-use Rattle.wh_table_picture.proofs.picture.has_row.Given as goal
+use Rattle.wh_table_picture.specs.Layout.{has_row}
+use Rattle.wh_table_picture.proofs.layout.has_row.Given as goal
 
 -- none so far is
 abbrev pub invariant-loop-row : goal.invariant-loop-row
