@@ -51,9 +51,9 @@ close_in text =
     else if bytes_eq text (codes "close") then Some happenings.Closes
     else None
 
--- what is made of a text that is one word
-abbrev pub named : (List ℕ → Happening) → List ℕ → Option Happening
-named make text = if is_name text then Some (make text) else None
+-- the name that a text is, if it is one word
+abbrev pub name_in : List ℕ → Option (List ℕ)
+name_in text = if is_name text then Some text else None
 
 -- the first, or else the job
 abbrev pub or_job : Option Happening → Option JobPattern → Option Happening
@@ -63,9 +63,12 @@ or_job None job = option_map (λ pattern. happenings.Comes pattern) job
 -- what may happen, by the text that says it
 unfoldable pub happening_in : List ℕ → Option Happening
 happening_in text =
-    if bytes_eq (word text) (codes "activity") then named (λ name. happenings.StartsActivity name) (rest text)
-    else if bytes_eq (word text) (codes "child") then named (λ name. happenings.StartsChild name) (rest text)
-    else if bytes_eq (word text) (codes "send") then named (λ name. happenings.SendsSignal name) (rest text)
+    if bytes_eq (word text) (codes "activity")
+    then option_map (λ name. happenings.StartsActivity name) (name_in (rest text))
+    else if bytes_eq (word text) (codes "child")
+    then option_map (λ name. happenings.StartsChild name) (name_in (rest text))
+    else if bytes_eq (word text) (codes "send")
+    then option_map (λ name. happenings.SendsSignal name) (name_in (rest text))
     else or_job (close_in text) (job_in text)
 
 -- at most so often

@@ -20,7 +20,7 @@ use Rattle.wh_promise_check.specs.declared.findings.PromiseFindings.TheVariants 
 abbrev pub later_jobs : List WayStep → List ℕ
 later_jobs steps = flat_map (λ step. codes "; " ++ step.job) steps
 
--- the jobs of a way, with a semicolon between each and the next
+-- the jobs of a path, with a semicolon between each and the next
 abbrev pub jobs_text : List WayStep → List ℕ
 jobs_text [] = []
 jobs_text (first ∷ others) = first.job ++ later_jobs others

@@ -1,7 +1,6 @@
 //! How a phrase says a promise.
 ghost use Rattle.std.specs.Prelude.{◌≡◌, IfOk};
-ghost use Rattle.wh_table_promises.specs.declared.promise.Happening.TheVariants as happenings;
-ghost use Rattle.wh_promise_check.specs.Phrases.{before, after, behind, spaced, is_name, job_in, close_in, named, happening_in};
+ghost use Rattle.wh_promise_check.specs.Phrases.{before, after, behind, spaced, is_name, job_in, close_in, name_in, happening_in};
 ghost use Rattle.wh_promise_check.specs.Phrases.{at_most_in, both_in, pair_in, between_in, promise_in};
 
 use std::alloc::Global;
@@ -113,34 +112,12 @@ fn close_in(text: &str) -> Option<Happening>
     }
 }
 
-/// The start of an activity of the type that the text is, if it is one word.
-fn activity_in(alloc: Global, text: &str) -> Result<Option<Happening>, OutOfMemory>
-    ensures { IfOk result (λ found. found ≡ named (λ name. happenings.StartsActivity name) text.now) }
+/// Returns the name that the text is, if it is one word.
+fn name_in(alloc: Global, text: &str) -> Result<Option<Text>, OutOfMemory>
+    ensures { IfOk result (λ name. name ≡ name_in text.now) }
 {
     if is_name(text) {
-        Ok(Some(Happening::StartsActivity(text_of(alloc, text)?)))
-    } else {
-        Ok(None)
-    }
-}
-
-/// The start of a child of the type that the text is, if it is one word.
-fn child_in(alloc: Global, text: &str) -> Result<Option<Happening>, OutOfMemory>
-    ensures { IfOk result (λ found. found ≡ named (λ name. happenings.StartsChild name) text.now) }
-{
-    if is_name(text) {
-        Ok(Some(Happening::StartsChild(text_of(alloc, text)?)))
-    } else {
-        Ok(None)
-    }
-}
-
-/// The sending of the signal that the text names, if it is one word.
-fn signal_in(alloc: Global, text: &str) -> Result<Option<Happening>, OutOfMemory>
-    ensures { IfOk result (λ found. found ≡ named (λ name. happenings.SendsSignal name) text.now) }
-{
-    if is_name(text) {
-        Ok(Some(Happening::SendsSignal(text_of(alloc, text)?)))
+        Ok(Some(text_of(alloc, text)?))
     } else {
         Ok(None)
     }
@@ -153,13 +130,13 @@ fn happening_in(alloc: Global, text: &str) -> Result<Option<Happening>, OutOfMem
 {
     let verb = word(text);
     if verb == "activity" {
-        return activity_in(alloc, rest(text));
+        return Ok(name_in(alloc, rest(text))?.map(|name| Happening::StartsActivity(name)));
     }
     if verb == "child" {
-        return child_in(alloc, rest(text));
+        return Ok(name_in(alloc, rest(text))?.map(|name| Happening::StartsChild(name)));
     }
     if verb == "send" {
-        return signal_in(alloc, rest(text));
+        return Ok(name_in(alloc, rest(text))?.map(|name| Happening::SendsSignal(name)));
     }
     match close_in(text) {
         Some(close) => Ok(Some(close)),

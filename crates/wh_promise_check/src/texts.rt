@@ -22,7 +22,7 @@ fn later_jobs(alloc: Global, steps: &[WayStep]) -> Result<String, AllocError>
     Ok(text)
 }
 
-/// The jobs of a way, with a semicolon between each and the next.
+/// The jobs of a path, with a semicolon between each and the next.
 fn jobs_text(alloc: Global, way: &[WayStep]) -> Result<String, AllocError>
     ensures { IfOk result (λ text. string_bytes text ≡ jobs_text way.now) }
 {

@@ -26,7 +26,7 @@ has_none _ = false
 abbrev pub members_of : PromiseFindings → List ℕ
 members_of findings = if has_none findings then [] else codes ",\"promises\":" ++ findings_json findings
 
--- the rows that a way takes
+-- the rows that a path takes
 abbrev pub rows_of : List WayStep → List ℕ
 rows_of [] = []
 rows_of (step ∷ way) = option_to_list step.row ++ rows_of way
@@ -35,7 +35,7 @@ rows_of (step ∷ way) = option_to_list step.row ++ rows_of way
 abbrev pub promise_text : ℕ → List ℕ → List ℕ
 promise_text number phrase = codes "promise " ++ (decimal number ++ (codes ", " ++ shown phrase))
 
--- the rows of the way that breaks a promise, if it is broken
+-- the rows of the path that breaks a promise, if it is broken
 abbrev pub path_of : ℕ → List ℕ → Outcome → List RowPath
 path_of number phrase (outcomes.Decided (verdicts.Broken breach)) =
     record { text = promise_text number phrase; rows = rows_of breach.way.items } ∷ []
@@ -60,10 +60,10 @@ more_of findings = record {
   paths = paths_of findings;
 }
 
--- what is found is right of the table, if there is one
+-- what is found is right of the table; without one there is no promise
 abbrev pub IsOfTable : List ℕ → Result OwnedTable TableFault → PromiseFindings → Type 0
 IsOfTable bytes (Ok table) findings = AreDecided (definition table) (phrases_in bytes) findings
-IsOfTable bytes (Err fault) findings = Unit {0}
+IsOfTable bytes (Err fault) findings = findings ≡ found.Each []
 
 -- so of the table that the bytes are
 abbrev pub IsOf : List ℕ → PromiseFindings → Type 0

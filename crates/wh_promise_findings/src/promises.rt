@@ -37,7 +37,7 @@ fn members_of(alloc: Global, found: &PromiseFindings) -> Result<String, AllocErr
     format!(in alloc; ",\"promises\":{list}")
 }
 
-/// The rows that a way takes.
+/// The rows that a path takes.
 fn rows_of(alloc: Global, way: &[WayStep]) -> Result<Vec<usize>, OutOfMemory>
     ensures { IfOk result (λ rows. rows.items ≡ rows_of way.now) }
 {
@@ -50,7 +50,7 @@ fn rows_of(alloc: Global, way: &[WayStep]) -> Result<Vec<usize>, OutOfMemory>
     Ok(rows)
 }
 
-/// Which promise a way breaks.
+/// Which promise a path breaks.
 fn promise_text(alloc: Global, number: usize, phrase: &Text) -> Result<Text, OutOfMemory>
     ensures { IfOk result (λ text. text ≡ promise_text number phrase.now) }
 {
@@ -59,7 +59,7 @@ fn promise_text(alloc: Global, number: usize, phrase: &Text) -> Result<Text, Out
     Ok(Text::new(text))
 }
 
-/// The rows of the way that breaks a promise of this number.
+/// The rows of the path that breaks a promise of this number.
 fn path_by(
     alloc: Global,
     number: usize,
@@ -77,7 +77,7 @@ fn path_by(
     })
 }
 
-/// Adds the rows of the way that breaks a promise of this number, if it is broken.
+/// Adds the rows of the path that breaks a promise of this number, if it is broken.
 fn add_path(
     alloc: Global,
     paths: &mut Vec<RowPath>,
@@ -93,7 +93,7 @@ fn add_path(
     Ok(())
 }
 
-/// The rows of the ways that break promises.
+/// The rows of the paths that break promises.
 fn each_path(alloc: Global, list: &[PromiseFinding]) -> Result<Vec<RowPath>, OutOfMemory>
     ensures { IfOk result (λ paths. paths.items ≡ paths_from 1 list.now) }
 {
@@ -141,7 +141,7 @@ fn found_of(alloc: Global, bytes: &[u8]) -> Result<PromiseFindings, OutOfMemory>
 }
 
 /// What `check` says of a table's promises: the lines and the JSON of `wh_promise_check`, and the
-/// rows of each way that breaks one. A table is good by them where each is kept.
+/// rows of each path that breaks one. A table is good by them where each is kept.
 pub struct Promises;
 
 impl MoreFindings for Promises {

@@ -1,7 +1,8 @@
 -- Configurations that were found show what the definitions do.
-use Rattle.std.proofs.Common.{◌≡◌, ℕ, zero, suc, ◌<◌, Bool, true, false, ◌&&◌, ◌||◌, List, [], ◌∷◌, length, get_or, map, refl, inl, inr, arith}
+use Rattle.std.proofs.Common.{◌≡◌, ℕ, zero, suc, ◌<◌, ◌≤◌, Bool, true, false, ◌&&◌, ◌||◌, List, [], ◌∷◌, length, get_or, map, refl, inl, inr, arith}
 use Rattle.std.specs.Prelude.{leb}
-use Rattle.std.proofs.lemmas.Bool.{and_parts, or_cases}
+use Rattle.std.proofs.lemmas.Bool.{and_parts, and_from, or_cases}
+use Rattle.std.proofs.lemmas.Bool.Decides.{nat_tests}
 use Rattle.wh_rows.specs.declared.row.Counts.{Counts}
 use Rattle.wh_rows.specs.Tables.{Definition}
 use Rattle.wh_promises.specs.Watches.{Turn}
@@ -34,6 +35,27 @@ in_at (first ∷ rest) zero other one within is = or_left (covered one (config_s
 in_at (first ∷ rest) (suc i) other one within is =
     let below : i < length rest = omega (arith, within) in
     or_right (covered one (config_seen first)) (is_in (map config_seen rest) one) (in_at rest i other one below is)
+
+both_to : (a b : Bool) → a ≡ true → b ≡ true → ◌≡◌ {A = Bool} (elim a [ true ↦ b | false ↦ false ]) true
+both_to true b first second = second
+both_to false b first second = cc
+
+-- what keeps to a budget keeps to a greater one
+module _ (tops : Counts) (turns : List Turn) (budget most : ℕ) (less : budget ≤ most) (rows : List Line) (all : List Config) where
+  one_within : (one : Config) → is_good tops turns budget rows all one ≡ true → is_good tops turns most rows all one ≡ true
+  one_within one good =
+      let parts : (leb one.watch.spent budget ≡ true) × (each (is_in all) (steps tops turns rows one) ≡ true) = and_parts _ _ good in
+      let kept : leb one.watch.spent most ≡ true = grind (arith, nat_tests) in
+      and_from (leb one.watch.spent most) (each (is_in all) (steps tops turns rows one)) kept parts.1
+
+  each_within : (list : List Config) → each (is_good tops turns budget rows all) list ≡ true
+      → each (is_good tops turns most rows all) list ≡ true
+  each_within [] good = refl
+  each_within (one ∷ rest) good =
+      let parts : (is_good tops turns budget rows all one ≡ true) × (each (is_good tops turns budget rows all) rest ≡ true) =
+      both_of (is_good tops turns budget rows all one) (each (is_good tops turns budget rows all) rest) good in
+      both_to (is_good tops turns most rows all one) (each (is_good tops turns most rows all) rest)
+      (one_within one parts.0) (each_within rest parts.1)
 
 module _ (table : Definition) (promise : Promise) (tops : Counts) (all : List Config) where
   abbrev pub rows : List Line
@@ -68,3 +90,20 @@ module _ (table : Definition) (promise : Promise) (tops : Counts) (all : List Co
       let fine : Cuts table.bounds tops = cuts_from table.bounds tops cuts.0 in
       means table promise
       (keeps_all table (watch_of promise) tops fine (is_in all) cuts.1 lists.0 (λ one there. under fine all one there lists.1))
+
+  -- so do those that keep to a smaller budget
+  pub shown_within : (budget : ℕ) → budget ≤ (watch_of promise).budget → shows_all (case_of table) tops turns budget all ≡ true
+      → Promises table promise
+  shown_within budget less shown =
+      let most = (watch_of promise).budget in
+      let halves : ((are_cuts table.bounds tops && all_within (length table.rows) tops rows) ≡ true)
+      × ((each (is_in all) (starts tops turns rows (begun (place table.first table.rows)))
+      && each (is_good tops turns budget rows all) all) ≡ true) = and_parts _ _ shown in
+      let lists : (each (is_in all) (starts tops turns rows (begun (place table.first table.rows))) ≡ true)
+      × (each (is_good tops turns budget rows all) all ≡ true) = and_parts _ _ halves.1 in
+      shown_keeps
+      (and_from (are_cuts table.bounds tops && all_within (length table.rows) tops rows)
+      (each (is_in all) (starts tops turns rows (begun (place table.first table.rows))) && each (is_good tops turns most rows all) all)
+      halves.0
+      (and_from (each (is_in all) (starts tops turns rows (begun (place table.first table.rows))))
+      (each (is_good tops turns most rows all) all) lists.0 (each_within tops turns budget most less rows all all lists.1)))

@@ -1,4 +1,4 @@
--- A way that breaks a promise: jobs in words, and what each is given.
+-- A path that breaks a promise: jobs in words, and what each is given.
 use Rattle.std.specs.Prelude.{◌≡◌, ◌<◌, ℕ, ◌+◌, true, List, [], ◌∷◌, length, map, Option, Some, None, IsTrue, codes, if◌then◌else◌}
 use Rattle.wh_workflow.specs.declared.job.Job.{Job}
 use Rattle.wh_rows.specs.declared.row.RowsState.{RowsState}
@@ -41,8 +41,8 @@ rows_taken table state (job ∷ later) = row_taken table state job ∷ rows_take
 abbrev pub job_read : List ℕ → Option Job
 job_read words = job_of (codes "Table") words
 
--- a way of these jobs: scenarios read its words as them; they begin with one start; each is given what the way says, by
--- the row that it says; and what happens in a run at them does not keep the promise
+-- a path of these jobs: scenarios read its words as them; they begin with one start; each is given what the path says,
+-- by the row that it says; and what happens in a run at them does not keep the promise
 pub record IsWayOf (table : Definition) (promise : Promise) (way : List WayStep) (jobs : List Job) : Type 0 where
   pub read : map (λ step. job_read step.job) way ≡ map (λ job. Some job) jobs
   pub begins : IsTrue (begins jobs)
@@ -50,22 +50,22 @@ pub record IsWayOf (table : Definition) (promise : Promise) (way : List WayStep)
   pub rows : map (λ step. step.row) way ≡ rows_taken table (initial table) jobs
   pub breaks : KeptIn promise (course table (initial table) jobs) → ⊥
 
--- a way that breaks the promise
+-- a path that breaks the promise
 abbrev pub IsWay : Definition → Promise → List WayStep → Type 0
 IsWay table promise way = (jobs : List Job) × IsWayOf table promise way jobs
 
--- no way of fewer jobs than this breaks the promise
+-- no path of fewer jobs than this breaks the promise
 abbrev pub IsKeptBefore : ℕ → Definition → Promise → Type 0
 IsKeptBefore many table promise =
     (list : List Job) → IsTrue (begins list) → length list < many → KeptIn promise (course table (initial table) list)
 
--- a way that breaks the promise, and is a shortest one where that is said
+-- a path that breaks the promise, and is a shortest one where that is said
 abbrev pub IsBreach : Definition → Promise → Breach → Type 0
 IsBreach table promise breach =
     IsWay table promise breach.way.items
     × (breach.is_shortest ≡ true → IsKeptBefore (length breach.way.items) table promise)
 
--- a verdict is right: what is kept is kept whatever jobs come, and a way breaks the promise
+-- a verdict is right: what is kept is kept whatever jobs come, and a path breaks the promise
 abbrev pub IsRight : Definition → Promise → Verdict → Type 0
 IsRight table promise verdicts.Kept = Promises table promise
 IsRight table promise (verdicts.Broken breach) = IsBreach table promise breach

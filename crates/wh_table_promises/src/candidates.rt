@@ -1,4 +1,4 @@
-//! The jobs that a search for a way tries.
+//! The jobs that a search for a path tries.
 use crate::lines::Line;
 use crate::patterns::text_of;
 use crate::promise::Happening;

@@ -1,5 +1,5 @@
 //! Whether a table that was read keeps a promise.
-ghost use Rattle.std.specs.Prelude.{◌≡◌, ◌<◌, ◌^◌, true, Some, IfOk, IfSome, map};
+ghost use Rattle.std.specs.Prelude.{◌≡◌, ◌<◌, ◌≤◌, ◌^◌, true, Some, IfOk, IfSome, map};
 ghost use Rattle.wh_row_rules.specs.Broken.{definition};
 ghost use Rattle.wh_promises.specs.Deciding.{case_of};
 ghost use Rattle.wh_promises.specs.Promises.{Promises, watch_of};
@@ -24,8 +24,9 @@ use wh_row_rules::OwnedTable;
 use wh_scenarios::job_of;
 use wh_workflow::Job;
 
-/// No promise with so great a number is decided.
-const MOST_BUDGET: u64 = 4_611_686_018_427_387_904;
+/// The greatest number that the search counts to: what happens at most so often also happens at
+/// most as often as any greater number says.
+const MOST_BUDGET: u64 = 4_611_686_018_427_387_903;
 
 /// Why it is not told whether a promise is kept.
 #[derive(Clone, Copy, Debug)]
@@ -33,7 +34,7 @@ pub enum Doubt {
     /// There are more than `MOST_CONFIGURATIONS` configurations: states of a run, its counters and
     /// what the promise has seen.
     TooMany,
-    /// No way breaks it in a run that is started without input, and it is not shown for each name
+    /// No path breaks it in a run that is started without input, and it is not shown for each name
     /// that a run may have.
     ByName,
 }
@@ -76,7 +77,7 @@ fn shows(
     are_good(alloc, rules, budget, configs, slots, configs)
 }
 
-/// The words of a way's jobs.
+/// The words of a path's jobs.
 fn words_of(
     alloc: Global,
     candidates: &[Candidate],
@@ -108,7 +109,7 @@ fn jobs_of(alloc: Global, words: &[Text]) -> Result<Option<Vec<Job>>, OutOfMemor
     Ok(Some(jobs))
 }
 
-/// The way of these words, if it breaks the promise.
+/// The path of these words, if it breaks the promise.
 fn way_of(
     alloc: Global,
     table: &OwnedTable,
@@ -157,7 +158,7 @@ fn shows_at(
     keep_from_start(alloc, rules, budget, place(&table.first, rows), jobs)
 }
 
-/// Whether it is shown that no way of fewer jobs than this breaks the promise.
+/// Whether it is shown that no path of fewer jobs than this breaks the promise.
 fn keeps_before(
     alloc: Global,
     table: &OwnedTable,
@@ -195,7 +196,7 @@ fn breach_of(
     Ok(Breach { way, is_shortest })
 }
 
-/// The verdict where a search found a way.
+/// The verdict where a search found a path.
 fn by_way(
     alloc: Global,
     table: &OwnedTable,
@@ -223,39 +224,43 @@ fn proves(
     table: &OwnedTable,
     promise: &TablePromise,
     rules: &Rules,
+    budget: u64,
     found: &Found,
 ) -> Result<bool, OutOfMemory>
     requires turns { map turn_seen rules.now.turns.now ≡ (watch_of (promise_of promise.now)).turns }
     requires lines { map line_seen rules.now.lines.now ≡ (case_of (definition table.now)).rows }
-    requires budget { (watch_of (promise_of promise.now)).budget < 2 ^ 62 }
+    requires budget { budget < 2 ^ 62 }
+    requires within { budget ≤ (watch_of (promise_of promise.now)).budget }
     ensures { IfOk result (λ shown. shown ≡ true → Promises (definition table.now) (promise_of promise.now)) }
 {
-    if shows(alloc, table, rules, budget_of(promise), found)? {
+    if shows(alloc, table, rules, budget, found)? {
         return Ok(true);
     }
     Ok(false)
 }
 
-/// The verdict where a search found no way: what it found may show the promise, or does so with all
-/// that runs of other names may come to.
+/// Returns the verdict if a search found no path: what it found may show the promise, or does so
+/// with all that runs of other names may come to.
 fn by_found(
     alloc: Global,
     table: &OwnedTable,
     promise: &TablePromise,
     rules: &Rules,
+    budget: u64,
     search: Search,
 ) -> Result<Verdict, OutOfMemory>
     requires turns { map turn_seen rules.now.turns.now ≡ (watch_of (promise_of promise.now)).turns }
     requires lines { map line_seen rules.now.lines.now ≡ (case_of (definition table.now)).rows }
-    requires budget { (watch_of (promise_of promise.now)).budget < 2 ^ 62 }
+    requires budget { budget < 2 ^ 62 }
+    requires within { budget ≤ (watch_of (promise_of promise.now)).budget }
     ensures { IfOk result (λ verdict. IsRight (definition table.now) (promise_of promise.now) verdict) }
 {
-    if proves(alloc, table, promise, rules, &search.found)? {
+    if proves(alloc, table, promise, rules, budget, &search.found)? {
         return Ok(Verdict::Kept);
     }
     let mut search = search;
-    search_all(alloc, &mut search, rules, budget_of(promise))?;
-    if proves(alloc, table, promise, rules, &search.found)? {
+    search_all(alloc, &mut search, rules, budget)?;
+    if proves(alloc, table, promise, rules, budget, &search.found)? {
         return Ok(Verdict::Kept);
     }
     Ok(Verdict::NotDecided(Doubt::ByName))
@@ -270,28 +275,30 @@ fn by_search(
 ) -> Result<Verdict, OutOfMemory>
     requires turns { map turn_seen rules.now.turns.now ≡ (watch_of (promise_of promise.now)).turns }
     requires lines { map line_seen rules.now.lines.now ≡ (case_of (definition table.now)).rows }
-    requires budget { (watch_of (promise_of promise.now)).budget < 2 ^ 62 }
     ensures { IfOk result (λ verdict. IsRight (definition table.now) (promise_of promise.now) verdict) }
 {
-    let budget = budget_of(promise);
+    let budget = budget_of(promise).min(MOST_BUDGET);
     let candidates = candidates_of(alloc, &table.name, rules.lines, rules.turns)?;
     let first = place(&table.first, table.rows.get());
     let mut search = begin_search(alloc, rules, first)?;
     match search_way(alloc, &mut search, rules, budget, candidates.as_slice())? {
-        SearchEnd::Complete => by_found(alloc, table, promise, rules, search),
+        SearchEnd::Complete => by_found(alloc, table, promise, rules, budget, search),
         SearchEnd::TooMany => Ok(Verdict::NotDecided(Doubt::TooMany)),
         SearchEnd::Breaks(path) => {
+            if budget < budget_of(promise) {
+                return Ok(Verdict::NotDecided(Doubt::TooMany));
+            }
             let words = words_of(alloc, candidates.as_slice(), path.as_slice())?;
             by_way(alloc, table, promise, rules, words)
         }
     }
 }
 
-/// Whether a table keeps a promise. `Kept` says that it is kept whatever jobs come, in whatever
-/// order and number, after the one start; a way is a scenario of a run that breaks it, and it is
-/// said where none of fewer jobs does. Where neither is found the verdict says why. A promise that
-/// may be broken so often as 2^62 times is not decided. `OutOfMemory` where an allocation was
-/// refused; nothing is left then.
+/// Decides whether a table keeps a promise. `Kept` says that it is kept whatever jobs come, in
+/// whatever order and number, after the one start. `Broken` has a scenario of a run that breaks it,
+/// and says whether none of fewer jobs does. If neither is found, the verdict says why: `TooMany`
+/// if the search for a path reaches `MOST_CONFIGURATIONS` configurations, and otherwise `ByName`.
+/// `OutOfMemory` if an allocation was refused; nothing is left then.
 pub fn decide(
     alloc: Global,
     table: &OwnedTable,
@@ -299,9 +306,6 @@ pub fn decide(
 ) -> Result<Verdict, OutOfMemory>
     ensures { IfOk result (λ verdict. IsRight (definition table.now) (promise_of promise.now) verdict) }
 {
-    if MOST_BUDGET <= budget_of(promise) {
-        return Ok(Verdict::NotDecided(Doubt::TooMany));
-    }
     let lines = lines_of(alloc, table.rows.get())?;
     let turns = turns_of(alloc, promise)?;
     let rules = Rules {

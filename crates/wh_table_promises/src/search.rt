@@ -1,5 +1,5 @@
-//! The search for a shortest way that breaks a promise. Nothing rests on it: a way that is found is
-//! followed (`ways`), and configurations that are found are judged (`found`).
+//! The search for a shortest path that breaks a promise. Nothing rests on it: a path that is found
+//! is followed (`ways`), and configurations that are found are judged (`found`).
 ghost use Rattle.std.specs.Prelude.{◌≡◌, ◌≤◌, ◌<◌, ◌+◌, ◌^◌};
 
 use crate::candidates::Candidate;
@@ -140,7 +140,7 @@ fn path_to(alloc: Global, origins: &[Origin], index: usize) -> Result<Vec<usize>
     Ok(path)
 }
 
-/// Searches for a shortest way that breaks the promise.
+/// Searches for a shortest path that breaks the promise.
 pub(crate) fn search_way(
     alloc: Global,
     search: &mut Search,

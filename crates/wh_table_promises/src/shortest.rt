@@ -1,5 +1,5 @@
-//! Whether no way of fewer jobs breaks a promise: all configurations that so many jobs lead to keep
-//! to the budget, one job after another.
+//! Whether no path of fewer jobs breaks a promise: all configurations that so many jobs lead to
+//! keep to the budget, one job after another.
 ghost use Rattle.std.specs.Prelude.{◌≡◌, ◌<◌, ◌^◌, true, IfOk, OnOk, map, take, drop};
 ghost use Rattle.wh_promises.specs.Deciding.{each};
 ghost use Rattle.wh_table_promises.specs.Private.Seen.{turn_seen, line_seen, config_seen};

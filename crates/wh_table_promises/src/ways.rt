@@ -1,4 +1,4 @@
-//! A way that breaks a promise, followed job by job.
+//! A path that breaks a promise, followed job by job.
 ghost use Rattle.std.specs.Prelude.{◌≡◌, ◌≤◌, ◌<◌, ◌+◌, ◌-◌, ◌^◌, true, IfOk, IfSome, OnOk, length, map};
 ghost use Rattle.wh_rows.specs.Rows.{fits, after, initial, seen_by, rows_give, after_rows};
 ghost use Rattle.wh_row_rules.specs.Broken.{definition};

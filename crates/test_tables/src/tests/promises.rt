@@ -15,8 +15,9 @@ fn table_says(alloc: Global, promises: &str, text: &str, json: &str) -> Result<(
 }
 
 /// Promises, and the finding about each.
-const SAID: [(&str, &str); 22] = [
+const SAID: [(&str, &str); 23] = [
     ("at most 1 activity X", "kept"),
+    ("at most 4611686018427387904 activity X", "kept"),
     ("at most 0 activity X", "broken by: start"),
     ("at most 1 child K", "broken by: start; signal s; signal s"),
     ("at most 0 send S", "broken by: start; signal s"),
