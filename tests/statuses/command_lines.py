@@ -108,6 +108,7 @@ Options:
       --cache-events <N>  How much the cached runs weigh: 1 an event, 1 a KiB of input, where 0 is no bound, 0 to 512000000 [default: 0]
       --slots <N>         How many tasks of each kind are processed at once, 1 to 1000 [default: 100]
       --require-files     Fails where there is no history
+      --progress          Prints on the standard error how many files are done, also where that is no terminal
   -h, --help              Print help
 """
 WORK_HELP = """Serves live tasks, which it asks for and answers in JSON on the standard output and input
@@ -152,7 +153,7 @@ def command_lines(room):
         ["serve"],
         ["serve", well, well],
         ["serve", well, "--json"],
-        ["serve", well, "--progress"],
+        ["serve", well, "--progress", "--progress"],
         ["no-such-command"],
         ["check"],
         ["try"],

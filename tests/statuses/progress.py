@@ -6,7 +6,7 @@ import threading
 
 from .rooms import NAP, NOT_JSON, link_to
 from .runs import LIMIT_SECONDS
-from .texts import MISSING, cannot_read
+from .texts import MISSING, UNCOMPARED, cannot_read
 
 # The places of the files that are no JSON, among those of a folder.
 BAD = (10, 70, 71)
@@ -32,6 +32,16 @@ def report(count, bad=(), name=name_of):
     """What is reported of them."""
     lines = [f"{name(place)}: " + ("unreadable, not JSON" if place in bad else "ok, 2 tasks") for place in range(count)]
     return "\n".join([*lines, f"{count} files, {count - len(bad)} ok", ""])
+
+
+def service(count, bad=()):
+    """What is reported of a service of them."""
+    lines = [
+        f"{name_of(place)}: " + ("unreadable, not JSON" if place in bad else "2 tasks, 2 completed, 0 failed")
+        for place in range(count)
+    ]
+    tasks = 2 * (count - len(bad))
+    return "\n".join([*lines, f"taken {tasks}, completed {tasks}, failed 0, in hand 0", ""])
 
 
 def json_report(count):
@@ -67,6 +77,13 @@ def progress(room):
         (["replay", one_more, "--progress"], 0, report(65), None, {"error": "full"}),
         (["replay", one_more, "--progress"], 0, report(65), None, {"error": "broken"}),
         (["replay", one_more, "--progress"], 0, one_line + report(65), None, {"merged": True}),
+        (["serve", some], 1, service(200, BAD), causes(BAD) + UNCOMPARED),
+        (["serve", some, "--progress"], 1, service(200, BAD), TOLD + causes(BAD) + UNCOMPARED),
+        (["serve", "--progress", one_more, "--workers", "3"], 0, service(65), one_line + UNCOMPARED),
+        (["serve", "--progress", one_batch], 0, service(64), UNCOMPARED),
+        (["serve", gone, "--progress"], 2, "", "".join(TOLD.splitlines(True)[:2]) + cannot_read(gone, MISSING, name_of(150))),
+        (["serve", one_more, "--progress"], 0, service(65), None, {"error": "full"}),
+        (["serve", one_more, "--progress"], 0, one_line + service(65) + UNCOMPARED, None, {"merged": True}),
     ]
 
 
@@ -103,11 +120,14 @@ def terminals(room):
     some, one_batch = room.folder(files(200, BAD)), room.folder(files(64))
     told = "".join(f"\r{line}\x1b[K" for line in TOLD.splitlines()) + "\r\x1b[K"
     # A terminal begins a line anew where one ends.
-    ended = causes(BAD).replace("\n", "\r\n")
+    ended, uncompared = causes(BAD).replace("\n", "\r\n"), UNCOMPARED.replace("\n", "\r\n")
     rows = [
         (["replay", some], (1, report(200, BAD), told + ended)),
         (["replay", some, "--progress"], (1, report(200, BAD), told + ended)),
         (["replay", one_batch], (0, report(64), "")),
+        (["serve", some], (1, service(200, BAD), told + ended + uncompared)),
+        (["serve", some, "--progress"], (1, service(200, BAD), told + ended + uncompared)),
+        (["serve", one_batch], (0, service(64), uncompared)),
     ]
     for words, wanted in rows:
         found = on_terminal(room, words)

@@ -127,7 +127,16 @@ where
             dir,
             options,
             require_files,
-        } => serve_folder::<W, R, O, E>(rt, dir, options, require_files, types, console),
+            progress,
+        } => serve_folder::<W, R, O, E>(
+            rt,
+            dir,
+            options,
+            require_files,
+            progress,
+            types,
+            console,
+        ),
         Plan::Work { options } => work::<R, F, O, E>(rt, options, live, console),
         Plan::Help { text } => print(text.get(), console),
     }

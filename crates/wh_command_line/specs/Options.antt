@@ -98,6 +98,6 @@ HasSlots options = (options.workers ≤ options.slots) × (options.activity_work
 
 -- the numbers of a plan are within their limits, with at least as many slots as workers
 abbrev pub IsWithinLimits : Plan → Type 0
-IsWithinLimits (Serve dir options require_files) = options.workers ≤ options.slots
+IsWithinLimits (Serve dir options require_files progress) = options.workers ≤ options.slots
 IsWithinLimits (Work options) = IsWithinWorkLimits options × HasSlots options
 IsWithinLimits _ = Unit {0}

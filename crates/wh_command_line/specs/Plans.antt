@@ -36,9 +36,10 @@ IsGiven name rows (Picture file) = (name ≡ codes "check") × GivesCheck rows (
 IsGiven name rows (Try file scenario) = (name ≡ codes "try") × GivesTrial rows (Try file scenario)
 IsGiven name rows (Query file query_type input format) =
     (name ≡ codes "query") × GivesQuery rows (Query file query_type input format)
-IsGiven name rows (Serve dir options require_files) = (name ≡ codes "serve") × GivesFolder rows dir
+IsGiven name rows (Serve dir options require_files progress) = (name ≡ codes "serve") × GivesFolder rows dir
     × GivesNumbers rows options.workers options.cache options.cache_events options.slots
     × GivesFlag (codes "require-files") rows require_files
+    × GivesFlag (codes "progress") rows progress
 IsGiven name rows (Work options) = (name ≡ codes "work") × GivesWork rows options
 IsGiven name rows (Help text) = ⊥
 

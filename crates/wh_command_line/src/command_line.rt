@@ -115,6 +115,8 @@ pub enum Plan {
         options: ServeOptions,
         /// Whether it is a failure if there is no history.
         require_files: bool,
+        /// Whether progress is reported also if the standard error is no terminal.
+        progress: bool,
     },
     /// Serve the tasks of a Task Queue. Each option is within its limits, and there are at least as
     /// many slots of each kind as workers of that kind.
@@ -390,7 +392,8 @@ fn serve<'a>(alloc: Global, helps: &'a Helps) -> Result<Command<'a>, AllocError>
     let command = with_argument(Ok(command), folder_argument(alloc));
     let command = with_number(alloc, command, &WORKERS, helps.workers.as_str());
     let command = with_sizes(alloc, command, helps);
-    with_argument(command, require_files_argument(alloc))
+    let command = with_argument(command, require_files_argument(alloc));
+    with_argument(command, progress_argument(alloc))
 }
 
 /// Returns the program without its subcommands, under the name by which it was called, with its
@@ -430,9 +433,14 @@ fn command<'a>(alloc: Global, name: &str, helps: &'a Helps) -> Result<Command<'a
 }
 
 /// Returns the plan to serve with these options, or `FewSlots`.
-fn serve_plan(dir: Text, options: ServeOptions, require_files: bool) -> Result<Plan, Refusal>
+fn serve_plan(
+    dir: Text,
+    options: ServeOptions,
+    require_files: bool,
+    progress: bool,
+) -> Result<Plan, Refusal>
     ensures limits { IfOk result IsWithinLimits }
-    ensures kept { IfOk result (λ plan. plan ≡ Plan.Serve dir options require_files) }
+    ensures kept { IfOk result (λ plan. plan ≡ Plan.Serve dir options require_files progress) }
     ensures few { (result ≡ Err Refusal.FewSlots) ↔ (options.slots < options.workers) }
     ensures err { IfErr result (λ e. e ≡ Refusal.FewSlots) }
 {
@@ -443,6 +451,7 @@ fn serve_plan(dir: Text, options: ServeOptions, require_files: bool) -> Result<P
         dir,
         options,
         require_files,
+        progress,
     })
 }
 
@@ -581,7 +590,8 @@ fn asked(alloc: Global, name: &str, given: &ArgMatches<'_>) -> Result<Plan, Refu
         "serve" => {
             let dir = text_given(alloc, given, "DIR")?;
             let options = ServeOptions::given(alloc, given)?;
-            serve_plan(dir, options, flag_given(given, "require-files"))
+            let require_files = flag_given(given, "require-files");
+            serve_plan(dir, options, require_files, flag_given(given, "progress"))
         }
         "work" => work_plan(WorkOptions::given(alloc, given)?),
         _ => Err(bad_line(format!(in alloc; "error: {name} is no command\n"))),

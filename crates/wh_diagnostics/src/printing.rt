@@ -1,9 +1,9 @@
 //! Prints what a command writes, and returns its status.
 
-ghost use Rattle.std.specs.Prelude.{◌≡◌, Err, IfOk, Ok, OnOk};
+ghost use Rattle.std.specs.Prelude.{◌≡◌, Err, IfErr, IfOk, Ok, OnOk};
 ghost use Rattle.std.specs.Io.KnownBytes.{Keeps};
 ghost use Rattle.wh_console.specs.Consoles.{IsQuiet, Printed};
-ghost use Rattle.wh_diagnostics.specs.Printing.{HasPrinted, status_with};
+ghost use Rattle.wh_diagnostics.specs.Printing.{HasPrinted, status_with, unflushed};
 
 use crate::failures::Failure;
 use std::io::Write;
@@ -19,6 +19,7 @@ pub fn flushed<O: Write, E: Write>(
     ensures status { IfOk result (λ status. answer ≡ Ok status) }
     ensures memory { answer ≡ Err CommandFault.OutOfMemory → result ≡ Err Failure.OutOfMemory }
     ensures output { answer ≡ Err CommandFault.Output → result ≡ Err Failure.Output }
+    ensures failure { IfErr result (λ failure. failure ≡ unflushed answer) }
     ensures quiet { IsQuiet console.old console.new }
     ensures kept { Keeps console.old.output console.new.output }
 {

@@ -1,6 +1,6 @@
 -- What commands of files wrote and reported, one step after the other.
-use Rattle.std.proofs.Common.{◌≡◌, ◌≢◌, ◌∙◌, ℕ, List, [], ◌∷◌, Some, sym, ap, subst}
-use Rattle.std.specs.Prelude.{Bool, false, true, Option, Result, Ok, Err, IfOk, OnOk, string_bytes}
+use Rattle.std.proofs.Common.{◌≡◌, ◌∙◌, inr, ℕ, List, [], ◌∷◌, Some, refl, sym, ap, subst}
+use Rattle.std.specs.Prelude.{Bool, false, Option, Result, Ok, Err, IfErr, IfOk, OnOk, string_bytes}
 use Rattle.std.specs.Io.KnownBytes.{Keeps}
 use Rattle.wh_console.proofs.Printing.{printed_kept, quiet_twice, written_kept}
 use Rattle.wh_console.specs.Consoles.{ConsoleView, IsQuiet, Printed, Reported}
@@ -8,10 +8,13 @@ use Rattle.wh_console.specs.declared.format.Format.{Format}
 use Rattle.wh_diagnostics.specs.Diagnostics.{record_lines, records_lines}
 use Rattle.wh_diagnostics.specs.Printing.{HasPrinted, status_with}
 use Rattle.wh_diagnostics.specs.declared.failures.Failure.{Failure}
+use Rattle.wh_diagnostics.specs.declared.failures.Failure.TheVariants.{Output}
 use Rattle.wh_file_commands.specs.Explanations.{HasExplained, HasExplainedInput, HasExplainedPath, HasReportedFault}
 use Rattle.wh_file_commands.specs.Pages.{HasPaged, HasPagedInput, HasPagedPath}
 use Rattle.wh_file_commands.specs.Queries.{HasQueried, HasQueriedInput, HasQueriedPath}
-use Rattle.wh_file_commands.specs.Replays.{HasReplayed, HasReplayedPaths, HasReported}
+use Rattle.wh_file_commands.specs.Batches.{faulty_of}
+use Rattle.wh_file_commands.specs.Replays.{HasNotReplayed, HasNotReplayedPaths, HasReplayed, HasReplayedPaths, HasReported}
+use Rattle.wh_file_commands.proofs.Batched.{as_many}
 use Rattle.wh_file_commands.specs.Views.{HasViewed, HasViewedInput, HasViewedPath}
 use Rattle.wh_file_faults.specs.Faults.{File}
 use Rattle.wh_file_page.specs.Pages.{IsPaged}
@@ -27,10 +30,13 @@ use Rattle.wh_query_report.specs.Queried.{IsQueried, status_of as query_status}
 use Rattle.wh_query_report.specs.Texts.{queried_as}
 use Rattle.wh_query_report.specs.declared.queried.Queried.{Queried}
 use Rattle.wh_known_types.specs.Types.{known_types_text, lacks_code}
+use Rattle.wh_progress.proofs.Batched.{whole_after_all}
+use Rattle.wh_progress.specs.Batches.{reports_of, HasStoppedWhole}
+use Rattle.wh_progress.specs.Modes.{mode_by}
 use Rattle.wh_progress.specs.declared.mode.ProgressMode.{ProgressMode}
-use Rattle.wh_progress.specs.declared.mode.ProgressMode.TheVariants.{Hidden, Lines}
 use Rattle.wh_report.specs.Commands.{IsExplained, view_as}
 use Rattle.wh_report.specs.Reports.{records_status, report_as, status_of}
+use Rattle.wh_report.specs.Records.{AreRecordsOf}
 use Rattle.wh_report.specs.declared.records.Record.{Record}
 use Rattle.wh_tester.specs.Verdicts.{IsVerdict}
 use Rattle.wh_tester.specs.declared.line.Line.{Line}
@@ -174,24 +180,64 @@ viewed_path path input selection format old new (Ok status) called from single h
 viewed_path path input selection format old new (Err failure) called from single h = tt
 
 -- the inputs of paths were replayed
-pub replayed_paths : {S : Type 0} (program : Program S) (types first : List ℕ) (more : List (List ℕ)) (format : Format) (required strict left_out lacks progress : Bool) (mode : ProgressMode) (inputs : List Input) (old between new : ConsoleView) (answer : Result ℕ Failure)
+pub replayed_paths : {S : Type 0} (program : Program S) (types first : List ℕ) (more : List (List ℕ)) (format : Format) (required strict left_out lacks progress : Bool) (link : Option (List ℕ)) (mode : ProgressMode) (inputs : List Input) (old between new : ConsoleView) (answer : Result ℕ Failure)
     → AreListed (is_by_path more) (first ∷ more) inputs left_out old between
     → lacks ≡ lacks_files left_out required inputs
-    → (progress ≡ true → mode ≢ Hidden) → (progress ≡ false → mode ≢ Lines)
+    → mode ≡ mode_by link progress
     → IfOk answer (HasReplayed IsReadFrom strict program types inputs format mode lacks between new)
     → IfOk answer (HasReplayedPaths program types first more format required strict progress old new)
-replayed_paths program types first more format required strict left_out lacks progress mode inputs old between new (Ok status) listed same asked unasked h =
+replayed_paths program types first more format required strict left_out lacks progress link mode inputs old between new (Ok status) listed same shown h =
     record {
-      mode = mode;
-      asked = asked;
-      unasked = unasked;
+      link = link;
       inputs = inputs;
       left_out = left_out;
       between = between;
       listed = listed;
-      replayed = subst (λ l. HasReplayed IsReadFrom strict program types inputs format mode l between new status) same h;
+      replayed = subst (λ m. HasReplayed IsReadFrom strict program types inputs format m (lacks_files left_out required inputs) between new status) shown
+          (subst (λ l. HasReplayed IsReadFrom strict program types inputs format mode l between new status) same h);
     }
-replayed_paths program types first more format required strict left_out lacks progress mode inputs old between new (Err failure) listed same asked unasked h = tt
+replayed_paths program types first more format required strict left_out lacks progress link mode inputs old between new (Err failure) listed same shown h = tt
+
+-- the inputs of paths were listed, but not replayed
+pub not_replayed_paths : {S : Type 0} (program : Program S) (first : List ℕ) (more : List (List ℕ)) (strict progress left_out : Bool) (link : Option (List ℕ)) (mode : ProgressMode) (inputs : List Input) (old between new : ConsoleView) (answer : Result ℕ Failure)
+    → AreListed (is_by_path more) (first ∷ more) inputs left_out old between
+    → mode ≡ mode_by link progress
+    → IfErr answer (HasNotReplayed IsReadFrom strict program inputs mode between new)
+    → IfErr answer (HasNotReplayedPaths program first more strict progress old new)
+not_replayed_paths program first more strict progress left_out link mode inputs old between new (Ok status) listed shown h = tt
+not_replayed_paths program first more strict progress left_out link mode inputs old between new (Err failure) listed shown h =
+    inr (record {
+      link = link;
+      inputs = inputs;
+      left_out = left_out;
+      between = between;
+      listed = listed;
+      stopped = subst (λ m. HasNotReplayed IsReadFrom strict program inputs m between new failure) shown h;
+    })
+
+-- the replay stopped, and nothing more came of it
+pub not_replayed : {S : Type 0} (gives : Gives) (strict : Bool) (program : Program S) (inputs : List Input) (mode : ProgressMode) (old new : ConsoleView) (failure : Failure)
+    → HasStoppedWhole (AreRecordsOf strict program (IsReadAs gives)) faulty_of mode inputs old new
+    → HasNotReplayed gives strict program inputs mode old new failure
+not_replayed gives strict program inputs mode old new failure stopped = record {
+  between = new;
+  stopped = stopped;
+  quiet = record { named = refl; errors = refl; whole = refl };
+  unwritten = λ other. refl;
+}
+
+-- all was replayed, and the report can't be written
+pub replayed_cut : {S : Type 0} (gives : Gives) (strict : Bool) (program : Program S) (inputs : List Input) (mode : ProgressMode) (records : List Record) (old between new : ConsoleView) (failure : Failure)
+    → AreRecordsOf strict program (IsReadAs gives) inputs records
+    → Reported old between (reports_of mode (faulty_of records))
+    → (failure ≡ Output) × IsQuiet between new
+    → HasNotReplayed gives strict program inputs mode old new failure
+replayed_cut gives strict program inputs mode records old between new failure found told cut = record {
+  between = between;
+  stopped = whole_after_all (AreRecordsOf strict program (IsReadAs gives)) faulty_of mode inputs records old between (as_many strict program (IsReadAs gives)) found told;
+  quiet = cut.1;
+  unwritten = λ other. absurd (other cut.0);
+}
 
 -- the page of a file that was written stays
 paged_kept : {S : Type 0} (program : Program S) (only_recorded : Bool) (name bytes : List ℕ) (a b c : Option (List ℕ)) (status : ℕ)

@@ -2,5 +2,6 @@ pub mod Batches
 pub mod Explanations
 pub mod Pages
 pub mod Queries
+pub mod Refusals
 pub mod Replays
 pub mod Views

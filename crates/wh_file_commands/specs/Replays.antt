@@ -1,26 +1,28 @@
 -- What replay of files writes and reports.
-use Rattle.std.specs.Prelude.{◌≡◌, ◌≢◌, ℕ, List, ◌∷◌, Bool, true, false}
+use Rattle.std.specs.Prelude.{◌≡◌, ◌≢◌, ◌⊎◌, ℕ, List, ◌∷◌, Bool, Option}
 use Rattle.std.specs.List.{list_any}
-use Rattle.wh_console.specs.Consoles.{ConsoleView, Printed, Reported}
+use Rattle.wh_console.specs.Consoles.{ConsoleView, IsQuiet, Printed, Reported}
 use Rattle.wh_console.specs.declared.format.Format.{Format}
 use Rattle.wh_diagnostics.specs.Diagnostics.{records_lines}
 use Rattle.wh_diagnostics.specs.Printing.{status_with}
+use Rattle.wh_diagnostics.specs.declared.failures.Failure.{Failure}
+use Rattle.wh_diagnostics.specs.declared.failures.Failure.TheVariants.{Output}
 use Rattle.wh_files.specs.Inputs.{IsReadFrom}
 use Rattle.wh_files.specs.declared.Input.{Input}
 use Rattle.wh_file_commands.specs.Batches.{faulty_of}
-use Rattle.wh_inputs.specs.Listings.{AreListed, is_by_path, lacks_files}
+use Rattle.wh_inputs.specs.Listings.{AreListed, IsUnlisted, is_by_path, lacks_files}
 use Rattle.wh_inputs.specs.Readings.{Gives, IsReadAs}
 use Rattle.wh_known_types.specs.Types.{known_types_text, lacks_code}
-use Rattle.wh_progress.specs.Batches.{reports_of}
+use Rattle.wh_progress.specs.Batches.{HasStoppedWhole, reports_of}
+use Rattle.wh_progress.specs.Modes.{mode_by}
 use Rattle.wh_progress.specs.declared.mode.ProgressMode.{ProgressMode}
-use Rattle.wh_progress.specs.declared.mode.ProgressMode.TheVariants.{Hidden, Lines}
 use Rattle.wh_report.specs.Records.{AreRecordsOf}
 use Rattle.wh_report.specs.Reports.{records_status, report_as}
 use Rattle.wh_report.specs.declared.records.Record.{Record}
 use Rattle.wh_workflow.specs.Law.{Program}
 
--- the report of records was written, then the rest of them was reported, and the status is that of the report, unless files
--- are lacking
+-- the report of records was written, then the rest of them was reported, and the status is that of the report, unless
+-- files are lacking
 pub record HasReported (records : List Record) (format : Format) (lacks : Bool) (old new : ConsoleView)
     (status : ℕ) : Type 0 where
   pub between : ConsoleView
@@ -42,15 +44,40 @@ pub record HasReplayed {S : Type 0} (gives : Gives) (strict : Bool) (program : P
   pub reported : HasReported records format lacks between ended status
   pub known : Reported ended new (known_types_text types (list_any (λ own. lacks_code own.cause) records))
 
--- what paths name was replayed, and progress was told where that was asked for
+-- there is no report, or it can't be written: progress was reported after some batches of what was replayed, and a line
+-- that was written over itself erased; nothing more was reported, and nothing written unless the output failed
+pub record HasNotReplayed {S : Type 0} (gives : Gives) (strict : Bool) (program : Program S) (inputs : List Input)
+    (mode : ProgressMode) (old new : ConsoleView) (failure : Failure) : Type 0 where
+  pub between : ConsoleView
+  pub stopped : HasStoppedWhole (AreRecordsOf strict program (IsReadAs gives)) faulty_of mode inputs old between
+  pub quiet : IsQuiet between new
+  pub unwritten : failure ≢ Output → new.output ≡ between.output
+
+-- what paths name was replayed, and progress was reported as the link of the standard error and the option for it have
+-- it
 pub record HasReplayedPaths {S : Type 0} (program : Program S) (types first : List ℕ) (more : List (List ℕ))
     (format : Format) (required strict progress : Bool) (old new : ConsoleView) (status : ℕ) : Type 0 where
-  pub mode : ProgressMode
-  pub asked : progress ≡ true → mode ≢ Hidden
-  pub unasked : progress ≡ false → mode ≢ Lines
+  pub link : Option (List ℕ)
   pub inputs : List Input
   pub left_out : Bool
   pub between : ConsoleView
   pub listed : AreListed (is_by_path more) (first ∷ more) inputs left_out old between
-  pub replayed : HasReplayed IsReadFrom strict program types inputs format mode (lacks_files left_out required inputs)
-      between new status
+  pub replayed : HasReplayed IsReadFrom strict program types inputs format (mode_by link progress)
+      (lacks_files left_out required inputs) between new status
+
+-- what paths name was listed, and there is no report of it, or it can't be written
+pub record HasStoppedInPaths {S : Type 0} (program : Program S) (first : List ℕ) (more : List (List ℕ))
+    (strict progress : Bool) (old new : ConsoleView) (failure : Failure) : Type 0 where
+  pub link : Option (List ℕ)
+  pub inputs : List Input
+  pub left_out : Bool
+  pub between : ConsoleView
+  pub listed : AreListed (is_by_path more) (first ∷ more) inputs left_out old between
+  pub stopped : HasNotReplayed IsReadFrom strict program inputs (mode_by link progress) between new failure
+
+-- why what paths name was not replayed: nothing can be read at one of them, or the replay stopped
+abbrev pub HasNotReplayedPaths : {S : Type 0} → Program S → (first : List ℕ) → (more : List (List ℕ))
+    → (strict progress : Bool) → (old new : ConsoleView) → Failure → Type 0
+HasNotReplayedPaths program first more strict progress old new failure =
+    IsUnlisted (is_by_path more) (first ∷ more) old new failure
+    ⊎ HasStoppedInPaths program first more strict progress old new failure

@@ -1,10 +1,11 @@
-//! Files are replayed batch by batch, and progress is told between batches.
+//! Files are replayed batch by batch, and progress is reported between batches.
 
-ghost use Rattle.std.specs.Prelude.{◌≡◌, IfOk, OnOk, count_by, length};
+ghost use Rattle.std.specs.Prelude.{◌≡◌, IfErr, IfOk, OnOk, count_by, length};
 ghost use Rattle.wh_console.specs.Consoles.{Reported};
 ghost use Rattle.wh_file_commands.specs.Batches.{AddsRecords, faulty_of};
 ghost use Rattle.wh_inputs.specs.Readings.{IsReadAs};
-ghost use Rattle.wh_progress.specs.Batches.{reports_after, reported_batches, reports_of};
+ghost use Rattle.wh_progress.specs.Batches.{HasStopped, HasStoppedWhole, reports_after, reported_batches};
+ghost use Rattle.wh_progress.specs.Batches.{reports_of};
 ghost use Rattle.wh_progress.specs.Lines.{progress_of};
 ghost use Rattle.wh_report.specs.Records.{AreRecordsOf};
 
@@ -39,7 +40,7 @@ fn progress_of(records: &[Record], total: usize) -> Progress
     }
 }
 
-/// Replays inputs, and adds their records to those of others.
+/// Replays inputs, and adds their records to those before them.
 fn check_batch<W: Workflow + Send, R: InputReader + AllocGlobal + Threads + Sync>(
     rt: &R,
     inputs: Vec<Input>,
@@ -64,8 +65,8 @@ fn check_batch<W: Workflow + Send, R: InputReader + AllocGlobal + Threads + Sync
     }
 }
 
-/// Replays inputs batch by batch, and gives their records in their order. Progress is told after
-/// each batch but the last.
+/// Replays inputs batch by batch, and returns their records in their order. Progress is reported
+/// after each batch but the last, also if a later input can't be read.
 fn check_batches<
     W: Workflow + Send,
     R: InputReader + AllocGlobal + Threads + Sync,
@@ -82,6 +83,8 @@ fn check_batches<
         AreRecordsOf strict W.program (IsReadAs R.gives) inputs.items records.items) }
     ensures told { let total = length inputs.items in IfOk result (λ records. Reported console.old console.new
         (reports_after mode total (faulty_of records.items) (reported_batches mode total))) }
+    ensures stopped { IfErr result (λ _. HasStopped (AreRecordsOf strict W.program (IsReadAs R.gives)) faulty_of
+        mode inputs.items console.old console.new) }
 {
     let total = inputs.len();
     let size = batch_size(total);
@@ -100,8 +103,8 @@ fn check_batches<
     Ok(records)
 }
 
-/// Replays inputs, and gives their records in their order. Progress is told between batches, and a
-/// line of it that was written over itself is erased, also where an input can't be read.
+/// Replays inputs, and returns their records in their order. Progress is reported between batches,
+/// and a line of it that was written over itself is erased, also if an input can't be read.
 pub(crate) fn check_in_batches<
     W: Workflow + Send,
     R: InputReader + AllocGlobal + Threads + Sync,
@@ -118,6 +121,8 @@ pub(crate) fn check_in_batches<
         AreRecordsOf strict W.program (IsReadAs R.gives) inputs.items records.items) }
     ensures told { IfOk result (λ records.
         Reported console.old console.new (reports_of mode (faulty_of records.items))) }
+    ensures stopped { IfErr result (λ _. HasStoppedWhole (AreRecordsOf strict W.program (IsReadAs R.gives)) faulty_of
+        mode inputs.items console.old console.new) }
 {
     let lines = reported_batches(mode, inputs.len());
     let records = check_batches::<W, R, O, E>(rt, inputs, strict, mode, console);

@@ -1,6 +1,6 @@
 //! The command `explain`.
 
-ghost use Rattle.std.specs.Prelude.{◌≡◌, ◌∷◌, [], IfOk, OnOk, string_bytes};
+ghost use Rattle.std.specs.Prelude.{◌≡◌, ◌∷◌, [], IfErr, IfOk, OnOk, string_bytes};
 ghost use Rattle.wh_console.specs.Consoles.{IsQuiet};
 ghost use Rattle.wh_file_commands.specs.Explanations.{HasExplained, HasExplainedInput, HasExplainedPath};
 ghost use Rattle.wh_file_commands.specs.Explanations.{HasReportedFault};
@@ -42,7 +42,8 @@ fn report_if_bad<O: Write, E: Write>(
     bytes: &[u8],
     console: &mut Console<'_, O, E>,
 ) -> Result<(), Failure>
-    ensures { OnOk result (HasReportedFault line.name line.verdict bytes.now console.old console.new) }
+    ensures fault { OnOk result (HasReportedFault line.name line.verdict bytes.now console.old console.new) }
+    ensures quiet { IfErr result (λ _. IsQuiet console.old console.new) }
 {
     match unread_fault(alloc, line, bytes) {
         Ok(Some(fault)) => console.report(Diagnostic::BadJson { fault }),
@@ -52,7 +53,7 @@ fn report_if_bad<O: Write, E: Write>(
     Ok(())
 }
 
-/// Writes the explanation of a file, and gives its line.
+/// Writes the explanation of a file, and returns its line.
 fn print_explanation<W: Workflow, O: Write, E: Write>(
     alloc: Global,
     name: String,
@@ -70,7 +71,7 @@ fn print_explanation<W: Workflow, O: Write, E: Write>(
     explain_file::<W, Outlet<O>>(alloc, name, bytes, selection, format, &mut console.output)
 }
 
-/// Explains a file, and once that is out, reports where it is no JSON, if that is why it is not
+/// Explains a file, and once that is out, reports where it is no JSON, if that is why it can't be
 /// read.
 fn explain<W: Workflow, O: Write, E: Write>(
     alloc: Global,
@@ -80,7 +81,9 @@ fn explain<W: Workflow, O: Write, E: Write>(
     format: Format,
     console: &mut Console<'_, O, E>,
 ) -> Result<u8, Failure>
-    ensures { IfOk result (HasExplained W.program (string_bytes name) bytes.now selection format console.old console.new) }
+    ensures explained { IfOk result
+        (HasExplained W.program (string_bytes name) bytes.now selection format console.old console.new) }
+    ensures quiet { IfErr result (λ _. IsQuiet console.old console.new) }
 {
     let line = match print_explanation::<W, O, E>(alloc, name, bytes, selection, format, console) {
         Ok(line) => line,
@@ -99,7 +102,9 @@ fn explain_input<W: Workflow, R: InputReader + AllocGlobal, O: Write, E: Write>(
     format: Format,
     console: &mut Console<'_, O, E>,
 ) -> Result<u8, Failure>
-    ensures { IfOk result (HasExplainedInput R.gives W.program input selection format console.old console.new) }
+    ensures explained { IfOk result
+        (HasExplainedInput R.gives W.program input selection format console.old console.new) }
+    ensures quiet { IfErr result (λ _. IsQuiet console.old console.new) }
 {
     let (name, bytes) = file_from(rt, input)?;
     explain::<W, O, E>(
@@ -112,9 +117,9 @@ fn explain_input<W: Workflow, R: InputReader + AllocGlobal, O: Write, E: Write>(
     )
 }
 
-/// Explains the history at a path: the tasks that are selected, or those that matter, and what is recorded
-/// in it where there is no code for its workflow type. Once that is out, reports where it is no JSON. The
-/// status is that of its replay.
+/// Explains the history at a path: the tasks that are selected, or those that matter, and what is
+/// recorded in it if its workflow type is not registered. Once that is out, reports where it is no
+/// JSON. The status is that of its replay. After a failure nothing was reported.
 pub fn explain_path<W: Workflow, R: Runtime + AllocGlobal, O: Write, E: Write>(
     rt: &R,
     path: Text,
@@ -123,6 +128,7 @@ pub fn explain_path<W: Workflow, R: Runtime + AllocGlobal, O: Write, E: Write>(
     console: &mut Console<'_, O, E>,
 ) -> Result<u8, Failure>
     ensures explained { IfOk result (HasExplainedPath W.program path selection format console.old console.new) }
+    ensures quiet { IfErr result (λ _. IsQuiet console.old console.new) }
 {
     let input = input_of(rt, path)?;
     explain_input::<W, R, O, E>(rt, input, selection, format, console)

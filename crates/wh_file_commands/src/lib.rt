@@ -1,5 +1,5 @@
-//! The commands of files: `replay`, `explain`, also with `--recorded` or `--html`, and `query`, each as
-//! what it writes, what it reports and its status.
+//! The commands of files: `replay`, `explain`, also with `--recorded` or `--html`, and `query`,
+//! each as what it writes, what it reports and its status.
 #![tactic(auto)]
 
 mod batches;

@@ -1,8 +1,10 @@
 //! The command `explain --html`.
 
-ghost use Rattle.std.specs.Prelude.{IfOk, string_bytes};
+ghost use Rattle.std.specs.Prelude.{◌≢◌, IfErr, IfOk, string_bytes};
+ghost use Rattle.std.specs.Io.KnownBytes.{Keeps};
 ghost use Rattle.wh_console.specs.Consoles.{IsQuiet};
 ghost use Rattle.wh_file_commands.specs.Pages.{HasPaged, HasPagedInput, HasPagedPath};
+ghost use Rattle.wh_file_commands.specs.Refusals.{IsRefused};
 ghost use Rattle.wh_file_page.specs.Pages.{IsPaged};
 
 use crate::view::unviewed;
@@ -17,7 +19,7 @@ use wh_files::Input;
 use wh_inputs::{InputReader, file_from, input_of};
 use wh_workflow::Workflow;
 
-/// Writes the page of a file, and gives its status.
+/// Writes the page of a file, and returns its status.
 fn print_page<W: Workflow, O: Write, E: Write>(
     alloc: Global,
     name: &str,
@@ -28,12 +30,16 @@ fn print_page<W: Workflow, O: Write, E: Write>(
     ensures quiet { IsQuiet console.old console.new }
     ensures paged { IfOk result (IsPaged W.program only_recorded name.now bytes.now
         console.old.output console.new.output) }
+    ensures unwritten { IfErr result (λ fault. fault ≢ PageFault.Output
+        → Keeps console.old.output console.new.output) }
 {
     page_command::<W, Outlet<O>>(alloc, name, bytes, only_recorded, &mut console.output)
 }
 
 /// Why there is no page of a file.
-fn failure_of(alloc: Global, name: String, fault: PageFault, bytes: &[u8]) -> Failure {
+fn failure_of(alloc: Global, name: String, fault: PageFault, bytes: &[u8]) -> Failure
+    ensures { result ≢ Failure.Output → fault ≢ PageFault.Output }
+{
     match fault {
         PageFault::Unviewed(fault) => unviewed(alloc, Text::new(name), fault, bytes),
         PageFault::Output => Failure::Output,
@@ -41,7 +47,7 @@ fn failure_of(alloc: Global, name: String, fault: PageFault, bytes: &[u8]) -> Fa
     }
 }
 
-/// Writes the page of a file, and gives the status once it is out.
+/// Writes the page of a file, and returns the status once it is out.
 fn page<W: Workflow, O: Write, E: Write>(
     alloc: Global,
     name: String,
@@ -49,8 +55,9 @@ fn page<W: Workflow, O: Write, E: Write>(
     only_recorded: bool,
     console: &mut Console<'_, O, E>,
 ) -> Result<u8, Failure>
-    ensures { IfOk result
+    ensures paged { IfOk result
         (HasPaged W.program only_recorded (string_bytes name) bytes.now console.old console.new) }
+    ensures refused { IfErr result (IsRefused console.old console.new) }
 {
     match print_page::<W, O, E>(alloc, name.as_str(), bytes, only_recorded, console) {
         Ok(status) => flushed(Ok(status), console),
@@ -65,15 +72,17 @@ fn page_input<W: Workflow, R: InputReader + AllocGlobal, O: Write, E: Write>(
     only_recorded: bool,
     console: &mut Console<'_, O, E>,
 ) -> Result<u8, Failure>
-    ensures { IfOk result (HasPagedInput R.gives W.program only_recorded input console.old console.new) }
+    ensures paged { IfOk result (HasPagedInput R.gives W.program only_recorded input console.old console.new) }
+    ensures refused { IfErr result (IsRefused console.old console.new) }
 {
     let (name, bytes) = file_from(rt, input)?;
     page::<W, O, E>(rt.alloc(), name, bytes.as_slice(), only_recorded, console)
 }
 
-/// Writes a page of the history at a path as HTML: with the verdict of its replay, whose status it gives, or
-/// with nothing replayed where only what is recorded is to be shown, and then the status is 0. `NotJson` or
-/// `NotViewed` where it has no list of events.
+/// Writes a page of the history at a path as HTML: with the verdict of its replay, whose status it
+/// returns, or with nothing replayed if only what is recorded is to be shown, and then the status
+/// is 0. `NotJson` or `NotViewed` if it has no list of events. After a failure nothing was
+/// reported, and nothing was written unless it is `Output`.
 pub fn page_path<W: Workflow, R: Runtime + AllocGlobal, O: Write, E: Write>(
     rt: &R,
     path: Text,
@@ -81,6 +90,7 @@ pub fn page_path<W: Workflow, R: Runtime + AllocGlobal, O: Write, E: Write>(
     console: &mut Console<'_, O, E>,
 ) -> Result<u8, Failure>
     ensures paged { IfOk result (HasPagedPath W.program only_recorded path console.old console.new) }
+    ensures refused { IfErr result (IsRefused console.old console.new) }
 {
     let input = input_of(rt, path)?;
     page_input::<W, R, O, E>(rt, input, only_recorded, console)

@@ -1,8 +1,9 @@
 //! The command `query`.
 
-ghost use Rattle.std.specs.Prelude.{◌≡◌, IfOk, Some};
-ghost use Rattle.wh_console.specs.Consoles.{Printed};
+ghost use Rattle.std.specs.Prelude.{◌≡◌, Err, IfErr, IfOk, None, Some};
+ghost use Rattle.wh_console.specs.Consoles.{IsQuiet, Printed};
 ghost use Rattle.wh_file_commands.specs.Queries.{HasQueried, HasQueriedInput, HasQueriedPath};
+ghost use Rattle.wh_file_commands.specs.Refusals.{IsBadQuery, IsRefused};
 ghost use Rattle.wh_query_report.specs.Inputs.{query_of};
 ghost use Rattle.wh_query_report.specs.Queried.{IsQueried};
 ghost use Rattle.wh_query_report.specs.Texts.{queried_as};
@@ -30,12 +31,14 @@ fn print_query<W: Queryable, O: Write, E: Write>(
 ) -> Result<Queried, CommandFault>
     ensures queried { IfOk result (IsQueried W.program W.queries file query.now) }
     ensures printed { IfOk result (λ queried. Printed console.old console.new (queried_as format queried)) }
+    ensures quiet { IsQuiet console.old console.new }
+    ensures unwritten { result ≡ Err CommandFault.OutOfMemory → console.new.output ≡ console.old.output }
 {
     query_command::<W, Outlet<O>>(alloc, file, query, format, &mut console.output)
 }
 
 /// Queries a file, writes what came of that, and once it is out, reports where the file is no JSON
-/// or for which workflow type there is no code, and for which there is some then.
+/// or that its workflow type is not registered, and which types are.
 fn query_file<W: Queryable, O: Write, E: Write>(
     alloc: Global,
     file: (String, Vec<u8>),
@@ -44,8 +47,9 @@ fn query_file<W: Queryable, O: Write, E: Write>(
     types: &str,
     console: &mut Console<'_, O, E>,
 ) -> Result<u8, Failure>
-    ensures { IfOk result
+    ensures queried { IfOk result
         (HasQueried W.program W.queries types.now file query.now format console.old console.new) }
+    ensures refused { IfErr result (IsRefused console.old console.new) }
 {
     let queried = match print_query::<W, O, E>(alloc, file, query, format, console) {
         Ok(queried) => queried,
@@ -68,8 +72,9 @@ fn query_input<W: Queryable, R: InputReader + AllocGlobal, O: Write, E: Write>(
     types: &str,
     console: &mut Console<'_, O, E>,
 ) -> Result<u8, Failure>
-    ensures { IfOk result (HasQueriedInput R.gives W.program W.queries types.now input query.now format
+    ensures queried { IfOk result (HasQueriedInput R.gives W.program W.queries types.now input query.now format
         console.old console.new) }
+    ensures refused { IfErr result (IsRefused console.old console.new) }
 {
     let file = file_from(rt, input)?;
     query_file::<W, O, E>(rt.alloc(), file, query, format, types, console)
@@ -77,7 +82,8 @@ fn query_input<W: Queryable, R: InputReader + AllocGlobal, O: Write, E: Write>(
 
 /// The query that words of the command line ask for.
 fn query_asked(alloc: Global, query_type: Text, words: Vec<Text>) -> Result<Query, Failure>
-    ensures { IfOk result (λ query. query_of query_type words.items ≡ Some query) }
+    ensures query { IfOk result (λ query. query_of query_type words.items ≡ Some query) }
+    ensures bad { query_of query_type words.items ≡ None → IfErr result IsBadQuery }
 {
     match query_of(alloc, query_type, words.as_slice()) {
         Ok(Some(query)) => Ok(query),
@@ -87,9 +93,9 @@ fn query_asked(alloc: Global, query_type: Text, words: Vec<Text>) -> Result<Quer
 }
 
 /// Queries the history at a path with words as the arguments, writes what came of that, and once it
-/// is out, reports where the file is no JSON or for which workflow type there is no code, and then
-/// `types`, for which there is some, unless they are empty. `BadInput` where a word is no JSON;
-/// nothing is read then.
+/// is out, reports where the file is no JSON or that its workflow type is not registered, and then
+/// `types`, which are, unless they are empty. `BadInput` if a word is no JSON; nothing is read
+/// then. After a failure nothing was reported, and nothing was written unless it is `Output`.
 pub fn query_path<W: Queryable, R: Runtime + AllocGlobal, O: Write, E: Write>(
     rt: &R,
     path: Text,
@@ -101,6 +107,8 @@ pub fn query_path<W: Queryable, R: Runtime + AllocGlobal, O: Write, E: Write>(
 ) -> Result<u8, Failure>
     ensures queried { IfOk result (HasQueriedPath W.program W.queries types.now path query_type words.items format
         console.old console.new) }
+    ensures refused { IfErr result (IsRefused console.old console.new) }
+    ensures bad { query_of query_type words.items ≡ None → IfErr result IsBadQuery }
 {
     let query = query_asked(rt.alloc(), query_type, words)?;
     let input = input_of(rt, path)?;

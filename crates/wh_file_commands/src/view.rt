@@ -1,7 +1,8 @@
 //! The command `explain --recorded`.
 
-ghost use Rattle.std.specs.Prelude.{◌≡◌, IfOk, OnOk};
-ghost use Rattle.wh_console.specs.Consoles.{Printed};
+ghost use Rattle.std.specs.Prelude.{◌≡◌, IfErr, IfOk, OnOk};
+ghost use Rattle.wh_console.specs.Consoles.{IsQuiet, Printed};
+ghost use Rattle.wh_file_commands.specs.Refusals.{IsRefused};
 ghost use Rattle.wh_file_commands.specs.Views.{HasViewed, HasViewedInput, HasViewedPath};
 ghost use Rattle.wh_report.specs.Commands.{view_as};
 
@@ -42,6 +43,8 @@ fn print_view<O: Write, E: Write>(
 ) -> Result<u8, CommandFault>
     ensures printed { OnOk result (Printed console.old console.new (view_as selection format view.now)) }
     ensures ends { IfOk result (λ status. status ≡ 0) }
+    ensures quiet { IsQuiet console.old console.new }
+    ensures output { IfErr result (λ fault. fault ≡ CommandFault.Output) }
 {
     match write_view_as(view, selection, format, &mut console.output) {
         Ok(()) => Ok(0),
@@ -58,7 +61,8 @@ fn view<O: Write, E: Write>(
     format: Format,
     console: &mut Console<'_, O, E>,
 ) -> Result<u8, Failure>
-    ensures { IfOk result (HasViewed bytes.now selection format console.old console.new) }
+    ensures viewed { IfOk result (HasViewed bytes.now selection format console.old console.new) }
+    ensures refused { IfErr result (IsRefused console.old console.new) }
 {
     let view = match view_of(alloc, bytes) {
         Ok(view) => view,
@@ -76,7 +80,8 @@ fn view_input<R: InputReader + AllocGlobal, O: Write, E: Write>(
     format: Format,
     console: &mut Console<'_, O, E>,
 ) -> Result<u8, Failure>
-    ensures { IfOk result (HasViewedInput R.gives input selection format console.old console.new) }
+    ensures viewed { IfOk result (HasViewedInput R.gives input selection format console.old console.new) }
+    ensures refused { IfErr result (IsRefused console.old console.new) }
 {
     let (name, bytes) = file_from(rt, input)?;
     view(
@@ -89,8 +94,9 @@ fn view_input<R: InputReader + AllocGlobal, O: Write, E: Write>(
     )
 }
 
-/// Shows what is recorded in the history at a path: the tasks that are selected, with nothing replayed.
-/// The status is 0. `NotJson` or `NotViewed` where it has no list of events.
+/// Shows what is recorded in the history at a path: the tasks that are selected, with nothing
+/// replayed. The status is 0. `NotJson` or `NotViewed` if it has no list of events. After a failure
+/// nothing was reported, and nothing was written unless it is `Output`.
 pub fn view_path<R: Runtime + AllocGlobal, O: Write, E: Write>(
     rt: &R,
     path: Text,
@@ -99,6 +105,7 @@ pub fn view_path<R: Runtime + AllocGlobal, O: Write, E: Write>(
     console: &mut Console<'_, O, E>,
 ) -> Result<u8, Failure>
     ensures viewed { IfOk result (HasViewedPath path selection format console.old console.new) }
+    ensures refused { IfErr result (IsRefused console.old console.new) }
 {
     let input = input_of(rt, path)?;
     view_input::<R, O, E>(rt, input, selection, format, console)

@@ -120,8 +120,8 @@ pub fn unread_cause(
     }
 }
 
-/// Where a file is no JSON, if it is none. `OutOfMemory` where there was no memory to read it or for
-/// its name.
+/// Where a file is no JSON, if it is none. `OutOfMemory` where there was no memory to read it or
+/// for its name.
 pub fn json_fault(alloc: Global, name: &str, bytes: &[u8]) -> Result<Option<FileFault>, OutOfMemory>
     ensures { IfOk result (IsFaultOf IsJsonCause name.now bytes.now) }
 {
@@ -132,8 +132,8 @@ pub fn json_fault(alloc: Global, name: &str, bytes: &[u8]) -> Result<Option<File
     Ok(Some(FileFault { name, cause }))
 }
 
-/// The workflow type of a history whose events are in place, if there is no code for it, as the fault
-/// of the file that it was read of. `OutOfMemory` where there was no memory for the names.
+/// The workflow type of a history whose events are in place, if there is no code for it, as the
+/// fault of the file that it was read of. `OutOfMemory` where there was no memory for the names.
 #[tactic(auto, using(crate::proofs::Faults::uncoded))]
 pub fn code_fault<W: Workflow>(
     alloc: Global,

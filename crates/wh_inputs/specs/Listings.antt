@@ -1,18 +1,20 @@
 -- What paths name, and what is reported of them.
-use Rattle.std.specs.Prelude.{◌≡◌, ◌==◌, ◌||◌, ◌&&◌, ℕ, List, [], ◌∷◌, ◌++◌, length, not, All, Bool, false, String, codes, if◌then◌else◌}
+use Rattle.std.specs.Prelude.{◌≡◌, ◌==◌, ◌||◌, ◌&&◌, ℕ, List, [], ◌∷◌, ◌++◌, length, not, All, Bool, false, None, String, codes, if◌then◌else◌}
 use Rattle.std.specs.declared.alloc.Global.{Global}
 use Rattle.wh_files.specs.Inputs.{IsCalled, IsOf}
 use Rattle.wh_files.specs.Names.{IsBadName}
 use Rattle.wh_files.specs.declared.Input.{Input}
 use Rattle.wh_console.specs.Consoles.{ConsoleView, Reported}
 use Rattle.wh_diagnostics.specs.Diagnostics.{bad_name_lines, named_line}
+use Rattle.wh_diagnostics.specs.declared.failures.Failure.{Failure}
+use Rattle.wh_diagnostics.specs.declared.failures.Failure.TheVariants.{Unreadable, OutOfMemory}
 
 -- files are called by their paths where there is more than one path
 abbrev pub is_by_path : List (List ℕ) → Bool
 is_by_path more = not (length more == 0)
 
--- what is reported of the inputs of a path, and of the bad names there: a line for each of these, or else that there is no
--- file, if so
+-- what is reported of the inputs of a path, and of the bad names there: a line for each of these, or else that there is
+-- no file, if so
 abbrev pub listing_lines : List ℕ → List Input → List (String Global) → List ℕ → List ℕ
 listing_lines path inputs names name =
     if not (length names == 0) then bad_name_lines path names name
@@ -45,3 +47,24 @@ AreListed by_path (path ∷ more) inputs left_out old new =
 -- files are left out, or there have to be files, and there is none
 abbrev pub lacks_files : (left_out required : Bool) → List Input → Bool
 lacks_files left_out required inputs = left_out || (required && (length inputs == 0))
+
+-- nothing can be read at a path: the system gives the reason, or there was no memory
+abbrev pub IsUnreadAt : (path : List ℕ) → Failure → Type 0
+IsUnreadAt path (Unreadable dir entry reason) = (dir ≡ path) × (entry ≡ None)
+IsUnreadAt path OutOfMemory = Unit {0}
+IsUnreadAt path _ = ⊥
+
+-- nothing can be read at the first of these paths, or there was no memory
+abbrev pub IsUnreadFirst : List (List ℕ) → Failure → Type 0
+IsUnreadFirst [] failure = failure ≡ OutOfMemory
+IsUnreadFirst (path ∷ more) failure = IsUnreadAt path failure
+
+-- nothing can be read at one of paths, or there was no memory: what is reported of those before was reported
+pub record IsUnlisted (by_path : Bool) (paths : List (List ℕ)) (old new : ConsoleView) (failure : Failure) : Type 0 where
+  pub front : List (List ℕ)
+  pub rest : List (List ℕ)
+  pub parts : paths ≡ front ++ rest
+  pub inputs : List Input
+  pub left_out : Bool
+  pub listed : AreListed by_path front inputs left_out old new
+  pub unread : IsUnreadFirst rest failure

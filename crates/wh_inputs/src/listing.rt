@@ -1,9 +1,10 @@
 //! What paths name.
 
-ghost use Rattle.std.specs.Prelude.{◌≡◌, ◌==◌, ◌||◌, ◌∷◌, IfOk, false, length, not};
+ghost use Rattle.std.specs.Prelude.{◌≡◌, ◌==◌, ◌||◌, ◌∷◌, IfErr, IfOk, false, length, not};
 ghost use Rattle.wh_console.specs.Consoles.{Reported};
 ghost use Rattle.wh_files.specs.Inputs.{IsCalled, IsOf, IsSingle};
-ghost use Rattle.wh_inputs.specs.Listings.{AreListed, IsListed, is_by_path, lacks_files, listing_lines};
+ghost use Rattle.wh_inputs.specs.Listings.{AreListed, IsListed, IsUnreadAt, is_by_path};
+ghost use Rattle.wh_inputs.specs.Listings.{lacks_files, listing_lines};
 
 use std::io;
 use std::io::Write;
@@ -22,7 +23,7 @@ pub struct Listed {
     pub left_out: bool,
 }
 
-/// Reports which files of a path are left out, or that it has no file, where it has none.
+/// Reports which files of a path are left out, or that it has no file, if it has none.
 fn reported<O: Write, E: Write>(
     path: Text,
     listing: Listing,
@@ -46,8 +47,8 @@ fn reported<O: Write, E: Write>(
     Listed { inputs, left_out }
 }
 
-/// The files of a folder that are to be read. What is left out is reported, and where there is
-/// none, that. `Unreadable` where the folder can't be listed; nothing is reported then.
+/// Returns the files of a folder that are to be read. What is left out is reported, or that there
+/// is no file. `Unreadable` if the folder can't be listed; nothing is reported then.
 pub fn folder_of<R: Files + AllocGlobal + Clone + Drop, O: Write, E: Write>(
     rt: &R,
     dir: Text,
@@ -55,6 +56,7 @@ pub fn folder_of<R: Files + AllocGlobal + Clone + Drop, O: Write, E: Write>(
 ) -> Result<Listed, Failure>
     ensures listed { IfOk result (λ listed.
         IsListed false dir listed.inputs.items listed.left_out console.old console.new) }
+    ensures refused { IfErr result (λ failure. IsUnreadAt dir failure × (console.new ≡ console.old)) }
 {
     let listing = match folder_inputs(rt, dir.get(), false) {
         Ok(listing) => listing,
@@ -63,15 +65,16 @@ pub fn folder_of<R: Files + AllocGlobal + Clone + Drop, O: Write, E: Write>(
     Ok(reported(dir, listing, console))
 }
 
-/// What is to be read at a path. What is left out is reported, and where there is nothing, that.
+/// Returns what is to be read at a path. What is left out is reported, or that there is no file.
 fn inputs_of<R: Files + io::Input + AllocGlobal + Clone + Drop, O: Write, E: Write>(
     rt: &R,
     path: Text,
     by_path: bool,
     console: &mut Console<'_, O, E>,
 ) -> Result<Listed, Failure>
-    ensures { IfOk result (λ listed.
+    ensures listed { IfOk result (λ listed.
         IsListed by_path path listed.inputs.items listed.left_out console.old console.new) }
+    ensures refused { IfErr result (λ failure. IsUnreadAt path failure × (console.new ≡ console.old)) }
 {
     let listing = match inputs_at(rt, path.get(), by_path) {
         Ok(listing) => listing,
@@ -80,16 +83,16 @@ fn inputs_of<R: Files + io::Input + AllocGlobal + Clone + Drop, O: Write, E: Wri
     Ok(reported(path, listing, console))
 }
 
-/// Whether one of two is so.
+/// Whether one of two holds.
 fn is_either(first: bool, second: bool) -> bool
     ensures { result ≡ (first || second) }
 {
     first || second
 }
 
-/// What is to be read at paths, in their order. Where there is one path alone, files are called
-/// without their folders. `Unreadable` where there is nothing to read at one of them; what is left out
-/// of those before it has been reported then.
+/// Returns what is to be read at paths, in their order. If there is one path alone, files are
+/// called without their folders. `Unreadable` if nothing can be read at one of them; what is left
+/// out of those before it has been reported then.
 pub fn all_inputs<R: Files + io::Input + AllocGlobal + Clone + Drop, O: Write, E: Write>(
     rt: &R,
     first: Text,
@@ -114,12 +117,13 @@ pub fn all_inputs<R: Files + io::Input + AllocGlobal + Clone + Drop, O: Write, E
     Ok(Listed { inputs, left_out })
 }
 
-/// The file at a path, or the standard input. `Unreadable` where the path names neither, as one that
-/// names a folder.
+/// Returns the file at a path, or the standard input. `Unreadable` if the path names neither, as
+/// one that names a folder.
 pub fn input_of<R: io::Input + AllocGlobal>(rt: &R, path: Text) -> Result<Input, Failure>
     ensures called { IfOk result (IsCalled false) }
     ensures from { IfOk result (λ input. IsOf path input.origin) }
     ensures single { IfOk result (λ input. IsSingle input.origin) }
+    ensures refused { IfErr result (IsUnreadAt path) }
 {
     match input_at(rt, path.get(), false) {
         Ok(input) => Ok(input),

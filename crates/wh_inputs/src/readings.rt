@@ -14,7 +14,7 @@ pub trait InputReader {
     /// Which bytes there may be where an input comes from.
     ghost gives: { Gives };
 
-    /// The bytes of an input, by where it comes from. `Unreadable` where it can't be read.
+    /// Returns the bytes of an input, by where it comes from. `Unreadable` if it can't be read.
     fn read(&self, origin: Origin) -> Result<Vec<u8>, InputFault>
         ensures { IfOk result (gives origin) };
 }
@@ -29,7 +29,8 @@ impl<R: Files + AllocGlobal> InputReader for R {
     }
 }
 
-/// An input as a file: its name, and the bytes that are read of it. `Unreadable` where it can't be read.
+/// Returns an input as a file: its name, and the bytes that are read of it. `Unreadable` if it
+/// can't be read.
 pub fn file_from<R: InputReader>(rt: &R, input: Input) -> Result<(String, Vec<u8>), InputFault>
     ensures read { IfOk result (IsReadAs R.gives input) }
 {

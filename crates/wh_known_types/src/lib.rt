@@ -3,12 +3,12 @@
 
 ghost use Rattle.std.specs.Prelude.{◌≡◌, OnOk};
 ghost use Rattle.std.specs.Io.KnownBytes.{Appends};
-ghost use Rattle.wh_known_types.specs.Types.{is_no_code, known_types_text, lacks_code};
+ghost use Rattle.wh_known_types.specs.Types.{is_no_code, known_types_text, faults_lack_code, lacks_code};
 
 use std::io;
 use std::io::Write;
 use wh_console::Message;
-use wh_file_faults::Cause;
+use wh_file_faults::{Cause, FileFault};
 use wh_tester::Shown;
 
 /// Returns whether the cause is that the workflow type of a file is not registered.
@@ -29,6 +29,13 @@ pub fn lacks_code(cause: &Option<Cause>) -> bool
         Some(cause) => is_no_code(cause),
         None => false,
     }
+}
+
+/// Whether the workflow type of a file with one of these faults is not registered.
+pub fn faults_lack_code(faults: &[FileFault]) -> bool
+    ensures lack { result ≡ faults_lack_code faults.now }
+{
+    faults.iter().any(|fault| is_no_code(&fault.cause))
 }
 
 /// The registered workflow types, which are reported if the workflow type of a file is not among

@@ -1,4 +1,4 @@
--- What was told between batches, one line after the other.
+-- What was reported between batches, one line after the other.
 use Rattle.std.proofs.Common.{◌≡◌, ◌∙◌, ℕ, zero, suc, ◌*◌, ◌≤◌, ◌<◌, ◌-◌, ◌/◌, List, ◌++◌, length, None, Some, refl, sym, ap, ap₂, subst, arith}
 use Rattle.std.specs.Prelude.{Bool, Option}
 use Rattle.std.specs.Io.KnownBytes.{Appends}
@@ -45,7 +45,7 @@ reported_as a b one other same p = record {
 fewer_fit : (batches size files : ℕ) → suc batches * size ≤ files → batches * size ≤ files
 fewer_fit batches size files fits = omega arith
 
--- what is told after the first batches says nothing of later files
+-- what is reported after the first batches says nothing of later files
 pub reports_front : (mode : ProgressMode) (total : ℕ) (done later : List Bool) (batches : ℕ) (name : List ℕ)
     → batches * batch_size total ≤ length done
     → reports_after mode total done batches name ≡ reports_after mode total (done ++ later) batches name
@@ -55,7 +55,7 @@ reports_front mode total done later (suc batches) name fits =
     (reports_front mode total done later batches name (fewer_fit batches (batch_size total) (length done) fits))
     (sym (take-append-le (suc batches * batch_size total) done later fits))
 
--- a batch that is told of is within the files
+-- a batch that is reported is within the files
 within : (size total batches : ℕ) → batches < (total - 1) / size → suc batches * size ≤ total
 within size total batches less =
     let whole = div-mul-le_self (total - 1) size in
@@ -67,7 +67,7 @@ batch_fits Hidden total batches less = absurd (omega (arith, less))
 batch_fits Lines total batches less = within (batch_size total) total batches less
 batch_fits InPlace total batches less = within (batch_size total) total batches less
 
--- one batch more was told of
+-- one batch more was reported
 pub told_more : (mode : ProgressMode) (total : ℕ) (done more : List Bool) (batches : ℕ) (a b c : ConsoleView)
     → length done ≡ batches * batch_size total → length (done ++ more) ≡ suc batches * batch_size total
     → Reported a b (reports_after mode total done batches)
@@ -82,7 +82,7 @@ told_more mode total done more batches a b c so_far now before after =
     (sym (take_all (suc batches * batch_size total) (done ++ more) (omega (arith, now)))))
     (reported_both a b c _ _ before after)
 
--- the last batch is not told of
+-- the last batch is not reported
 pub told_before_last : (mode : ProgressMode) (total : ℕ) (done more : List Bool) (batches : ℕ) (a b : ConsoleView)
     → length done ≡ batches * batch_size total
     → Reported a b (reports_after mode total done batches)
@@ -91,7 +91,7 @@ told_before_last mode total done more batches a b so_far before =
     reported_as a b (reports_after mode total done batches) (reports_after mode total (done ++ more) batches)
     (reports_front mode total done more batches a.name (omega (arith, so_far))) before
 
--- all was told of that is told of files
+-- all that is reported of files was reported
 pub told_all : (mode : ProgressMode) (total : ℕ) (faulty : List Bool) (a b c : ConsoleView) → total ≡ length faulty
     → Reported a b (reports_after mode total faulty (reported_batches mode total))
     → Reported b c (end_text mode (reported_batches mode total))

@@ -1,27 +1,56 @@
--- What is told of progress between batches of files.
-use Rattle.std.specs.Prelude.{ℕ, zero, suc, ◌-◌, ◌*◌, ◌/◌, max, List, [], ◌++◌, take, length, Bool}
+-- What is reported of progress between batches of files.
+use Rattle.std.specs.Prelude.{◌≡◌, ◌≤◌, ℕ, zero, suc, ◌-◌, ◌*◌, ◌/◌, max, List, [], ◌++◌, take, length, Bool}
+use Rattle.wh_console.specs.Consoles.{ConsoleView, Reported}
 use Rattle.wh_progress.specs.Lines.{end_text, line_text, progress_of}
 use Rattle.wh_progress.specs.declared.mode.ProgressMode.{ProgressMode}
 use Rattle.wh_progress.specs.declared.mode.ProgressMode.TheVariants.{Hidden}
 
--- how many of so many files are in a batch: 64, or a twentieth of them where that is more
+-- how many of so many files are in a batch: 64, or a twentieth of them if that is more
 abbrev pub batch_size : ℕ → ℕ
 batch_size total = max 64 (total / 20)
 
--- after how many batches progress is told: after each but the last
+-- after how many batches progress is reported: after each but the last
 abbrev pub reported_batches : ProgressMode → ℕ → ℕ
 reported_batches Hidden total = 0
 reported_batches _ total = (total - 1) / batch_size total
 
--- what is told after the first batches of so many files, where those that are done have a fault or not
+-- what is reported after the first batches of so many files, where those that are done have a fault or not
 abbrev pub reports_after : ProgressMode → (total : ℕ) → (faulty : List Bool) → (batches : ℕ) → List ℕ → List ℕ
 reports_after mode total faulty zero name = []
 reports_after mode total faulty (suc batches) name =
     reports_after mode total faulty batches name
     ++ line_text mode (progress_of total (take (suc batches * batch_size total) faulty)) name
 
--- what is told of files in all, where each has a fault or not
+-- what is reported of files in all, where each has a fault or not
 abbrev pub reports_of : ProgressMode → (faulty : List Bool) → List ℕ → List ℕ
 reports_of mode faulty name =
     reports_after mode (length faulty) faulty (reported_batches mode (length faulty)) name
     ++ end_text mode (reported_batches mode (length faulty)) name
+
+-- the work on inputs stopped before its end: something was made of the first of them, and progress was reported after
+-- batches of these
+pub record HasStopped {T A : Type 0} (Are : List T → A → Type 0) (faulty : A → List Bool) (mode : ProgressMode)
+    (inputs : List T) (old new : ConsoleView) : Type 0 where
+  pub front : List T
+  pub back : List T
+  pub parts : inputs ≡ front ++ back
+  pub made : A
+  pub found : Are front made
+  pub batches : ℕ
+  pub few : batches ≤ reported_batches mode (length inputs)
+  pub within : batches * batch_size (length inputs) ≤ length front
+  pub reported : Reported old new (reports_after mode (length inputs) (faulty made) batches)
+
+-- so it did, and then a line that was written over itself was erased
+pub record HasStoppedWhole {T A : Type 0} (Are : List T → A → Type 0) (faulty : A → List Bool) (mode : ProgressMode)
+    (inputs : List T) (old new : ConsoleView) : Type 0 where
+  pub front : List T
+  pub back : List T
+  pub parts : inputs ≡ front ++ back
+  pub made : A
+  pub found : Are front made
+  pub batches : ℕ
+  pub few : batches ≤ reported_batches mode (length inputs)
+  pub within : batches * batch_size (length inputs) ≤ length front
+  pub reported : Reported old new (λ name. reports_after mode (length inputs) (faulty made) batches name
+      ++ end_text mode (reported_batches mode (length inputs)) name)

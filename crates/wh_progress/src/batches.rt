@@ -11,16 +11,16 @@ const LEAST: usize = 64;
 /// How many batches of files there are at most, but for one more of what is left.
 const MOST_BATCHES: usize = 20;
 
-/// How many of so many files are in a batch: 64, so that each thread has some, or a twentieth of
-/// them where that is more.
+/// Returns how many of so many files are in a batch: 64, so that each thread has some, or a
+/// twentieth of them if that is more.
 pub fn batch_size(total: usize) -> usize
     ensures size { result ≡ batch_size total }
 {
     LEAST.max(total / MOST_BATCHES)
 }
 
-/// After how many batches of so many files progress is told: after each but the last. After none
-/// where it is hidden.
+/// Returns after how many batches of so many files progress is reported: after each but the last,
+/// and after none if it is hidden.
 pub fn reported_batches(mode: ProgressMode, total: usize) -> usize
     ensures batches { result ≡ reported_batches mode total }
 {

@@ -1,5 +1,5 @@
-//! Progress of long work: how many files are done and how many of them have a fault, told on the
-//! standard error between batches of files.
+//! Progress of long work: how many files are done and how many of them have a fault, reported on
+//! the standard error between batches of files.
 #![tactic(auto)]
 
 mod batches;
@@ -8,4 +8,4 @@ mod mode;
 
 pub use batches::{batch_size, reported_batches};
 pub use lines::{Progress, ProgressEnd, ProgressLine};
-pub use mode::{ProgressMode, progress_mode};
+pub use mode::{ProgressMode, mode_by, progress_mode};

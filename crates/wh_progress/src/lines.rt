@@ -45,13 +45,13 @@ impl fmt::Display for Progress {
 /// A line of progress.
 #[derive(Clone, Copy, Debug)]
 pub struct ProgressLine {
-    /// How it is told. Where it is hidden, nothing is written.
+    /// How it is shown. If it is hidden, nothing is written.
     pub mode: ProgressMode,
     /// How far the work has come.
     pub progress: Progress,
 }
 
-/// Writes a line of progress, as it is told.
+/// Writes a line of progress, as it is shown.
 fn write_progress<E: Write>(
     mode: ProgressMode,
     progress: Progress,
@@ -80,9 +80,9 @@ impl Message for ProgressLine {
 /// The end of progress: a line that was written over itself is erased.
 #[derive(Clone, Copy, Debug)]
 pub struct ProgressEnd {
-    /// How it was told.
+    /// How it was shown.
     pub mode: ProgressMode,
-    /// How many lines were told. After none nothing is written.
+    /// How many lines were reported. After none nothing is written.
     pub lines: usize,
 }
 

@@ -1,15 +1,15 @@
-//! Whether progress is told, and how.
+//! Whether progress is shown, and how.
 
-ghost use Rattle.std.specs.Prelude.{◌≡◌, ◌≢◌, false, true};
-ghost use Rattle.wh_progress.specs.Modes.{is_terminal_path, mode_of};
+ghost use Rattle.std.specs.Prelude.{◌≡◌, ℕ, List, Option, option_map};
+ghost use Rattle.wh_progress.specs.Modes.{is_terminal, is_terminal_path, mode_by, mode_of};
 
 use std::fs;
 use std::rt::Files;
 
-/// Whether progress is told on the standard error, and how.
+/// Whether progress is shown on the standard error, and how.
 #[derive(Clone, Copy, PartialEq, Eq, Debug)]
 pub enum ProgressMode {
-    /// It is not told.
+    /// It is not shown.
     Hidden,
     /// In lines, one after the other.
     Lines,
@@ -17,7 +17,7 @@ pub enum ProgressMode {
     InPlace,
 }
 
-/// Where the system says what the standard error is.
+/// Where the system has a link to what the standard error is.
 const STANDARD_ERROR: &str = "/proc/self/fd/2";
 
 /// Whether a path is that of a terminal.
@@ -27,15 +27,17 @@ fn is_terminal_path(path: &str) -> bool
     path.starts_with("/dev/pts/") || path.starts_with("/dev/tty")
 }
 
-/// Whether the standard error is a terminal, as far as the system says.
-fn is_terminal<R: Files + AllocGlobal>(rt: &R) -> bool {
-    match fs::read_link(rt, STANDARD_ERROR) {
-        Ok(path) => is_terminal_path(path.as_str()),
-        Err(_) => false,
+/// Whether the link of the standard error, if there is one, leads to a terminal.
+fn is_terminal(link: Option<&str>) -> bool
+    ensures { result ≡ is_terminal (option_map (λ path. path.now) link.entry) }
+{
+    match link {
+        Some(path) => is_terminal_path(path),
+        None => false,
     }
 }
 
-/// How progress is told on a terminal or elsewhere, where it is asked for or not.
+/// How progress is shown on a terminal or elsewhere, if it is asked for or not.
 fn mode_of(terminal: bool, asked: bool) -> ProgressMode
     ensures { result ≡ mode_of terminal asked }
 {
@@ -46,12 +48,22 @@ fn mode_of(terminal: bool, asked: bool) -> ProgressMode
     }
 }
 
-/// How progress is told: in place where the standard error is a terminal, and elsewhere in lines
-/// where it is asked for. Where the system does not say what the standard error is, it counts as no
-/// terminal.
-pub fn progress_mode<R: Files + AllocGlobal>(rt: &R, asked: bool) -> ProgressMode
-    ensures asked { asked ≡ true → result ≢ ProgressMode.Hidden }
-    ensures unasked { asked ≡ false → result ≢ ProgressMode.Lines }
+/// Returns how progress is shown, by the path to which the link of the standard error leads: in
+/// place if that is a terminal, and elsewhere in lines if it is asked for. Without a link the
+/// standard error counts as no terminal.
+pub fn mode_by(link: Option<&str>, asked: bool) -> ProgressMode
+    ensures mode { result ≡ mode_by (option_map (λ path. path.now) link.entry) asked }
 {
-    mode_of(is_terminal(rt), asked)
+    mode_of(is_terminal(link), asked)
+}
+
+/// Returns how progress is shown, as `mode_by` does, by the link that the system has for the
+/// standard error. That is all that is not known of it.
+pub fn progress_mode<R: Files + AllocGlobal>(rt: &R, asked: bool) -> ProgressMode
+    ensures mode { (link : Option (List ℕ)) × (result ≡ mode_by link asked) }
+{
+    match fs::read_link(rt, STANDARD_ERROR) {
+        Ok(path) => mode_by(Some(path.as_str()), asked),
+        Err(_) => mode_by(None, asked),
+    }
 }

@@ -1,26 +1,48 @@
 -- What a service of files writes and reports.
-use Rattle.std.specs.Prelude.{◌≡◌, ℕ, List, Bool, false}
+use Rattle.std.specs.Prelude.{◌≡◌, ◌≢◌, ◌⊎◌, ℕ, List, length, map, Bool, false, Option}
 use Rattle.std.specs.Io.KnownBytes.{Keeps}
-use Rattle.std.specs.List.{list_any}
+use Rattle.std.specs.List.{AllZip}
 use Rattle.wh_console.specs.Consoles.{ConsoleView, IsQuiet, Reported}
 use Rattle.wh_diagnostics.specs.Printing.{status_with}
+use Rattle.wh_diagnostics.specs.declared.failures.Failure.{Failure}
+use Rattle.wh_diagnostics.specs.declared.failures.Failure.TheVariants.{Output}
+use Rattle.wh_file_faults.specs.Faults.{AreFaultsOf, File}
 use Rattle.wh_files.specs.Inputs.{IsReadFrom}
 use Rattle.wh_files.specs.declared.Input.{Input}
 use Rattle.wh_host.specs.declared.config.Config.{Config}
-use Rattle.wh_inputs.specs.Listings.{IsListed, lacks_files}
+use Rattle.wh_inputs.specs.Listings.{IsListed, IsUnreadAt, lacks_files}
 use Rattle.wh_inputs.specs.Readings.{Gives, IsReadAs}
-use Rattle.wh_known_types.specs.Types.{is_no_code, known_types_text}
-use Rattle.wh_service.specs.Services.{HostsBy, IsHosted, IsServiceEndOver}
+use Rattle.wh_known_types.specs.Types.{known_types_text, faults_lack_code}
+use Rattle.wh_progress.specs.Batches.{HasStoppedWhole, reports_after, reported_batches, reports_of}
+use Rattle.wh_progress.specs.Modes.{mode_by}
+use Rattle.wh_progress.specs.declared.mode.ProgressMode.{ProgressMode}
+use Rattle.wh_service.specs.Readings.{HasRead, faulty_of, reading_of, readings_of}
+use Rattle.wh_service.specs.Services.{HostsBy, IsEndOf, IsHosted, IsServed, IsServiceEnd}
+use Rattle.wh_service.specs.declared.readings.ReadFiles.{ReadFiles}
+use Rattle.wh_service.specs.declared.service.Served.{Served}
 use Rattle.wh_service.specs.declared.service.ServiceEnd.{ServiceEnd}
 use Rattle.wh_service_command.specs.Diagnostics.{service_lines}
 use Rattle.wh_workflow.specs.Law.{Program}
 
--- there is no code for the workflow type of a file
+-- the type of the workflow of a file is not registered
 abbrev pub lacks_code : ServiceEnd → Bool
-lacks_code end = list_any (λ fault. is_no_code fault.cause) end.file_faults.items
+lacks_code end = faults_lack_code end.file_faults.items
 
--- once the report of a service was out, the rest was reported, and the workflow types that there is code for where a
--- file has another one; the status is that of the service, unless files are lacking
+-- which files have a fault, as progress counts them
+abbrev pub faulty_in : ReadFiles → List Bool
+faulty_in read = faulty_of (readings_of read)
+
+-- inputs were read batch by batch, progress was reported after each batch but the last, and a host served the files
+pub record HasServed {S : Type 0} (gives : Gives) (program : Program S) (hosts : HostsBy) (config : Config)
+    (inputs : List Input) (mode : ProgressMode) (old new : ConsoleView) (served : Served) : Type 0 where
+  pub read : ReadFiles
+  pub found : HasRead (IsReadAs gives) program inputs read
+  pub reported : Reported old new
+      (reports_after mode (length inputs) (faulty_in read) (reported_batches mode (length inputs)))
+  pub served : IsServed hosts config (readings_of read) read.faults.items served
+
+-- once the report of a service was out, the rest was reported, and the registered workflow types if the type of a file
+-- is not registered; the status is that of the service, unless files are lacking
 pub record HasEnded (types : List ℕ) (end : ServiceEnd) (lacks : Bool) (old new : ConsoleView)
     (status : ℕ) : Type 0 where
   pub between : ConsoleView
@@ -31,25 +53,75 @@ pub record HasEnded (types : List ℕ) (end : ServiceEnd) (lacks : Bool) (old ne
   pub known : Reported ended new (known_types_text types (lacks_code end))
   pub ends : status ≡ status_with lacks end.status
 
--- inputs were served, then the rest was reported, and the workflow types that there is code for where a file has
--- another one; the status is that of the service, unless files are lacking
-pub record HasServedAll {S : Type 0} (gives : Gives) (program : Program S) (types : List ℕ) (hosts : HostsBy)
-    (config : Config) (inputs : List Input) (lacks : Bool) (old new : ConsoleView) (status : ℕ) : Type 0 where
+-- the report of what was served was written, and once it was out, the rest was reported
+pub record HasFinished (types : List ℕ) (served : Served) (lacks : Bool) (old new : ConsoleView)
+    (status : ℕ) : Type 0 where
   pub end : ServiceEnd
   pub between : ConsoleView
-  pub ended : ConsoleView
   pub quiet : IsQuiet old between
-  pub served : IsServiceEndOver (IsReadAs gives) program hosts config inputs old.output between.output end
+  pub written : IsEndOf served old.output between.output end
+  pub ended : HasEnded types end lacks between new status
+
+-- the report can't be written: nothing more was reported
+abbrev pub IsCutOff : (old new : ConsoleView) → Failure → Type 0
+IsCutOff old new failure = (failure ≡ Output) × IsQuiet old new
+
+-- inputs were read as files, in their order; progress was reported and a line that was written over itself erased, by
+-- which files can't be read; the report of a service of these files was written, which is the same however progress is
+-- shown; then the rest was reported, and the registered workflow types if the type of a file is not registered; the
+-- status is that of the service, unless files are lacking
+pub record HasServedAll {S : Type 0} (gives : Gives) (program : Program S) (types : List ℕ) (hosts : HostsBy)
+    (config : Config) (inputs : List Input) (mode : ProgressMode) (lacks : Bool) (old new : ConsoleView)
+    (status : ℕ) : Type 0 where
+  pub files : List File
+  pub end : ServiceEnd
+  pub read : ConsoleView
+  pub between : ConsoleView
+  pub ended : ConsoleView
+  pub from : AllZip (IsReadAs gives) inputs files
+  pub told : Reported old read (reports_of mode (faulty_of (map reading_of files)))
+  pub quiet : IsQuiet read between
+  pub served : IsServiceEnd hosts config (map reading_of files) read.output between.output end
+  pub faults : AreFaultsOf program files end.file_faults.items
   pub reported : Reported between ended (service_lines end)
   pub known : Reported ended new (known_types_text types (lacks_code end))
   pub ends : status ≡ status_with lacks end.status
 
--- the files of a folder were served by a host of these sizes
+-- there is no report of a service, or it can't be written: progress was reported after some batches of what was read,
+-- and a line that was written over itself erased; nothing more was reported, and nothing written unless the output
+-- failed
+pub record HasNotServed {S : Type 0} (gives : Gives) (program : Program S) (inputs : List Input)
+    (mode : ProgressMode) (old new : ConsoleView) (failure : Failure) : Type 0 where
+  pub between : ConsoleView
+  pub stopped : HasStoppedWhole (HasRead (IsReadAs gives) program) faulty_in mode inputs old between
+  pub quiet : IsQuiet between new
+  pub unwritten : failure ≢ Output → new ≡ between
+
+-- the files of a folder were served by a host of these sizes, and progress was reported as the link of the standard
+-- error and the option for it have it
 pub record HasServedFolder {S : Type 0} (program : Program S) (types dir : List ℕ) (config : Config)
-    (required : Bool) (old new : ConsoleView) (status : ℕ) : Type 0 where
+    (required progress : Bool) (old new : ConsoleView) (status : ℕ) : Type 0 where
+  pub link : Option (List ℕ)
   pub inputs : List Input
   pub left_out : Bool
   pub between : ConsoleView
   pub listed : IsListed false dir inputs left_out old between
-  pub served : HasServedAll IsReadFrom program types (IsHosted program) config inputs
+  pub served : HasServedAll IsReadFrom program types (IsHosted program) config inputs (mode_by link progress)
       (lacks_files left_out required inputs) between new status
+
+-- the files of a folder were listed, and there is no report of a service of them, or it can't be written
+pub record HasStoppedInFolder {S : Type 0} (program : Program S) (dir : List ℕ) (progress : Bool)
+    (old new : ConsoleView) (failure : Failure) : Type 0 where
+  pub link : Option (List ℕ)
+  pub inputs : List Input
+  pub left_out : Bool
+  pub between : ConsoleView
+  pub listed : IsListed false dir inputs left_out old between
+  pub stopped : HasNotServed IsReadFrom program inputs (mode_by link progress) between new failure
+
+-- why the files of a folder were not served: it can't be listed, and then the console is as it was, or the service
+-- stopped
+abbrev pub HasNotServedFolder : {S : Type 0} → Program S → (dir : List ℕ) → (progress : Bool) → (old new : ConsoleView)
+    → Failure → Type 0
+HasNotServedFolder program dir progress old new failure =
+    (IsUnreadAt dir failure × (new ≡ old)) ⊎ HasStoppedInFolder program dir progress old new failure

@@ -64,7 +64,7 @@ fn write_failures<E: Write>(failures: &[FileFailure], name: &str, writer: &mut E
     Ok(())
 }
 
-/// Writes that a worker has a fault, where one has.
+/// Writes that a worker has a fault, if one has.
 fn write_worker<E: Write>(faultless: bool, name: &str, writer: &mut E) -> io::Result<()>
     ensures { OnOk result (Appends (E.contents writer.old) (E.contents writer.new) (worker_lines faultless name.now)) }
 {
@@ -78,7 +78,7 @@ fn write_worker<E: Write>(faultless: bool, name: &str, writer: &mut E) -> io::Re
     )
 }
 
-/// Writes that not all that is recorded was compared, where it is so.
+/// Writes that not all that is recorded was compared, if so.
 fn write_uncompared<E: Write>(uncompared: bool, name: &str, writer: &mut E) -> io::Result<()>
     ensures { OnOk result (Appends (E.contents writer.old) (E.contents writer.new)
         (uncompared_lines uncompared name.now)) }
@@ -93,8 +93,8 @@ fn write_uncompared<E: Write>(uncompared: bool, name: &str, writer: &mut E) -> i
     )
 }
 
-/// Writes where files are no JSON and why tasks failed, and then in a line each where a worker has a
-/// fault and where `serve` did not compare all that is recorded.
+/// Writes where files are no JSON and why tasks failed, and then a line if a worker has a fault,
+/// and one if `serve` did not compare all that is recorded.
 fn write_service<E: Write>(end: ServiceEnd, name: &str, writer: &mut E) -> io::Result<()>
     ensures { OnOk result (Appends (E.contents writer.old) (E.contents writer.new) (service_lines end name.now)) }
 {

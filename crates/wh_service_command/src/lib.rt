@@ -1,7 +1,8 @@
-//! The command `serve`: a service of the histories of a folder, as what it writes, what it reports and its
-//! status.
+//! The command `serve`: a service of the histories of a folder, as what it writes, what it reports
+//! and its status.
 #![tactic(auto)]
 
+mod batches;
 mod diagnostics;
 mod serve;
 mod services;

@@ -1,46 +1,35 @@
 //! The command `serve`.
 
-ghost use Rattle.std.specs.Prelude.{◌≡◌, IfOk, vec_len};
-ghost use Rattle.std.specs.List.{list_any};
+ghost use Rattle.std.specs.Prelude.{◌≡◌, IfErr, IfOk, vec_len};
 ghost use Rattle.wh_command_line.specs.Options.{sizes_of};
 ghost use Rattle.wh_console.specs.Consoles.{IsQuiet};
 ghost use Rattle.wh_host.specs.Machine.{IsConfig};
 ghost use Rattle.wh_inputs.specs.Readings.{IsReadAs};
-ghost use Rattle.wh_known_types.specs.Types.{is_no_code};
-ghost use Rattle.wh_service.specs.Services.{IsHost, IsHosted, IsServiceEndOver, leaves};
-ghost use Rattle.wh_service_command.specs.Commands.{HasEnded, HasServedAll, HasServedFolder};
+ghost use Rattle.wh_progress.specs.Batches.{HasStopped};
+ghost use Rattle.wh_service.specs.Readings.{HasRead};
+ghost use Rattle.wh_service.specs.Services.{IsEndOf, IsHost, IsHosted, leaves};
+ghost use Rattle.wh_service_command.specs.Commands.{HasEnded, HasFinished, HasNotServed, HasNotServedFolder};
+ghost use Rattle.wh_service_command.specs.Commands.{HasServed, HasServedAll, HasServedFolder, IsCutOff, faulty_in};
 
+use crate::batches::read_batches;
 use crate::diagnostics::ServiceNotes;
 use std::io::Write;
 use std::rt::Runtime;
 use std::sync::Wait;
 use std::thread::Threads;
 use wh_command_line::ServeOptions;
-use wh_console::{Console, Outlet};
+use wh_console::Console;
 use wh_diagnostics::{Failure, flushed, status_with};
 use wh_events::{OutOfMemory, Text};
-use wh_file_faults::FileFault;
-use wh_files::{Input, InputFault};
+use wh_files::Input;
 use wh_host::Config;
-use wh_inputs::{InputReader, file_from, folder_of};
-use wh_known_types::{KnownTypes, is_no_code};
-use wh_service::{ServiceEnd, ServiceFault, ServiceHost, ServiceSetup, host_of, serve_inputs};
+use wh_inputs::{InputReader, folder_of};
+use wh_known_types::{KnownTypes, faults_lack_code};
+use wh_progress::{ProgressEnd, ProgressMode, progress_mode, reported_batches};
+use wh_service::{
+    Served, ServiceEnd, ServiceHost, ServiceSetup, host_of, report_served, serve_read,
+};
 use wh_workflow::Workflow;
-
-/// Why there is no report of a service.
-fn failure_of(fault: ServiceFault) -> Failure {
-    match fault {
-        ServiceFault::Input { fault } => Failure::from(fault),
-        ServiceFault::Report { fault } => Failure::from(fault),
-    }
-}
-
-/// Whether there is no code for the workflow type of a file.
-fn lack_code(faults: &[FileFault]) -> bool
-    ensures { result ≡ list_any (λ fault. is_no_code fault.cause) faults.now }
-{
-    faults.iter().any(|fault| is_no_code(&fault.cause))
-}
 
 /// The status of a service whose report is written, once that is out and the rest is reported.
 fn end_service<O: Write, E: Write>(
@@ -49,17 +38,47 @@ fn end_service<O: Write, E: Write>(
     lacks: bool,
     console: &mut Console<'_, O, E>,
 ) -> Result<u8, Failure>
-    ensures { IfOk result (HasEnded types.now end lacks console.old console.new) }
+    ensures ended { IfOk result (HasEnded types.now end lacks console.old console.new) }
+    ensures cut { IfErr result (IsCutOff console.old console.new) }
 {
     let status = flushed(Ok(end.status), console)?;
-    let lacking = lack_code(end.file_faults.as_slice());
+    let lacking = faults_lack_code(end.file_faults.as_slice());
     console.report(ServiceNotes { end });
     console.report(KnownTypes { types, lacking });
     Ok(status_with(lacks, status))
 }
 
-/// Serves inputs by a host of these sizes, and writes the report.
-fn print_service<
+/// Writes the report of what was served.
+fn print_service<O: Write, E: Write>(
+    served: Served,
+    console: &mut Console<'_, O, E>,
+) -> Result<ServiceEnd, Failure>
+    ensures quiet { IsQuiet console.old console.new }
+    ensures written { IfOk result (IsEndOf served console.old.output console.new.output) }
+    ensures output { IfErr result (λ failure. failure ≡ Failure.Output) }
+{
+    match report_served(served, &mut console.output) {
+        Ok(end) => Ok(end),
+        Err(_) => Err(Failure::Output),
+    }
+}
+
+/// Writes the report of what was served, and once it is out, reports the rest.
+fn finish<O: Write, E: Write>(
+    served: Served,
+    types: &str,
+    lacks: bool,
+    console: &mut Console<'_, O, E>,
+) -> Result<u8, Failure>
+    ensures finished { IfOk result (HasFinished types.now served lacks console.old console.new) }
+    ensures cut { IfErr result (IsCutOff console.old console.new) }
+{
+    let end = print_service(served, console)?;
+    end_service(end, types, lacks, console)
+}
+
+/// Reads inputs batch by batch, and serves their tasks by a host of these sizes.
+fn read_and_serve<
     W: Workflow + Send,
     R: InputReader + AllocGlobal + Threads + Sync,
     F: Fn(Config, Vec<ServiceSetup>) -> Result<ServiceHost, OutOfMemory>,
@@ -69,35 +88,29 @@ fn print_service<
     rt: &R,
     inputs: Vec<Input>,
     config: Config,
+    mode: ProgressMode,
     host: F,
     console: &mut Console<'_, O, E>,
-) -> Result<ServiceEnd, Failure>
+) -> Result<Served, Failure>
 where
     F: Drop,
     requires sizes { IsConfig config }
     requires runs { IsHost (F.pre host) (leaves (F.post host)) }
-    ensures quiet { IsQuiet console.old console.new }
-    ensures served { IfOk result (IsServiceEndOver (IsReadAs R.gives) W.program (leaves (F.post host)) config
-        inputs.items console.old.output console.new.output) }
+    ensures served { IfOk result (HasServed R.gives W.program (leaves (F.post host)) config inputs.items mode
+        console.old console.new) }
+    ensures stopped { IfErr result (λ _. HasStopped (HasRead (IsReadAs R.gives) W.program) faulty_in mode
+        inputs.items console.old console.new) }
 {
-    let served = serve_inputs::<W, R, _, _, F, Outlet<O>>(
-        rt,
-        rt.alloc(),
-        inputs,
-        |input: Input| -> Result<(String, Vec<u8>), InputFault>
-            ensures { IfOk result (IsReadAs R.gives input) }
-        { file_from(rt, input) },
-        config,
-        &mut console.output,
-        host,
-    );
-    match served {
-        Ok(end) => Ok(end),
-        Err(fault) => Err(failure_of(fault)),
+    let read = read_batches::<W, R, O, E>(rt, inputs, mode, console)?;
+    match serve_read(rt.alloc(), read, config, host) {
+        Ok(served) => Ok(served),
+        Err(OutOfMemory) => Err(Failure::OutOfMemory),
     }
 }
 
-/// Serves inputs, writes the report, and once it is out, reports the rest.
+/// Serves inputs, writes the report, and once it is out, reports the rest. Progress is reported
+/// while the inputs are read. A line of it that was written over itself stays while the host runs,
+/// and is erased before the report, or if there is none.
 fn serve<
     W: Workflow + Send,
     R: InputReader + AllocGlobal + Threads + Sync,
@@ -108,6 +121,7 @@ fn serve<
     rt: &R,
     inputs: Vec<Input>,
     options: ServeOptions,
+    mode: ProgressMode,
     types: &str,
     lacks: bool,
     host: F,
@@ -116,17 +130,32 @@ fn serve<
 where
     F: Drop,
     requires { IsHost (F.pre host) (leaves (F.post host)) }
-    ensures { IfOk result (HasServedAll R.gives W.program types.now (leaves (F.post host)) (sizes_of options)
-        inputs.items lacks console.old console.new) }
+    ensures served { IfOk result (HasServedAll R.gives W.program types.now (leaves (F.post host))
+        (sizes_of options) inputs.items mode lacks console.old console.new) }
+    ensures stopped { IfErr result
+        (HasNotServed R.gives W.program inputs.items mode console.old console.new) }
 {
-    let end = print_service::<W, R, F, O, E>(rt, inputs, options.config(), host, console)?;
-    end_service(end, types, lacks, console)
+    let lines = reported_batches(mode, inputs.len());
+    let config = options.config();
+    let served = read_and_serve::<W, R, F, O, E>(rt, inputs, config, mode, host, console);
+    console.report(ProgressEnd { mode, lines });
+    match served {
+        Ok(served) => finish(served, types, lacks, console),
+        Err(failure) => Err(failure),
+    }
 }
 
 /// Serves the files of a folder by a host of the sizes that the options ask for, writes the report,
-/// and once it is out, reports the rest. What is left out of the folder is reported first. The
-/// status is that of the service, and 1 where files are lacking. Where there is no code for the
-/// workflow type of a file, `types` are told last, for which there is some, unless they are empty.
+/// and once it is out, reports the rest. What is left out of the folder is reported first, and then
+/// progress, if the standard error is a terminal or `progress` asks for it: after each batch of
+/// files that were read but the last, with the number of files of which no history can be read. The
+/// report and the status are the same without it. The status is that of the service, and 1 if files
+/// are lacking. If the workflow type of a file is not registered, `types` are reported last, which
+/// are, unless they are empty.
+///
+/// `Unreadable` if the folder or one of its files can't be read; progress has been reported up to
+/// that file then, and nothing is written, as with `OutOfMemory`. `Output` if the report can't be
+/// written.
 pub fn serve_folder<
     W: Workflow + Send,
     R: Runtime + AllocGlobal + Threads + Wait + Sync,
@@ -137,6 +166,7 @@ pub fn serve_folder<
     dir: Text,
     options: ServeOptions,
     require_files: bool,
+    progress: bool,
     types: &str,
     console: &mut Console<'_, O, E>,
 ) -> Result<u8, Failure>
@@ -144,14 +174,18 @@ where
     R::File: Send,
     R::Dir: Send,
     ensures served { IfOk result (HasServedFolder W.program types.now dir (sizes_of options) require_files
-        console.old console.new) }
+        progress console.old console.new) }
+    ensures stopped { IfErr result
+        (HasNotServedFolder W.program dir progress console.old console.new) }
 {
     let listed = folder_of(rt, dir, console)?;
     let lacks = listed.lacks_files(require_files);
+    let mode = progress_mode(rt, progress);
     serve::<W, _, _, _, _>(
         rt,
         listed.inputs,
         options,
+        mode,
         types,
         lacks,
         |config: Config, setups: Vec<ServiceSetup>| -> Result<ServiceHost, OutOfMemory>

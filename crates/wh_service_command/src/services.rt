@@ -20,10 +20,10 @@ use wh_service::{ServiceEnd, serve_files};
 use wh_workflow::Workflow;
 
 /// Serves the tasks of the files by workers with a thread each, and writes the report: a line for
-/// each file in their order, then the totals. File by file the workers are assigned the histories in
-/// turn. The status is 0 where each file can be read, no task failed and no worker has a fault, and
+/// each file in their order, then the totals. File by file the workers are assigned the histories
+/// in turn. The status is 0 if each file can be read, no task failed and no worker has a fault, and
 /// else 1. Of equal names each has the counts and the failed tasks of the first that its worker was
-/// assigned. Nothing is written where the answer is `OutOfMemory`.
+/// assigned. Nothing is written if the answer is `OutOfMemory`.
 pub fn serve_with_failures<W: Workflow + Send, R: Threads + Wait + Sync, O: Write>(
     rt: &R,
     alloc: Global,
@@ -45,8 +45,8 @@ pub fn serve_with_failures<W: Workflow + Send, R: Threads + Wait + Sync, O: Writ
     serve_files::<W, R, O>(rt, alloc, files, options.config(), writer)
 }
 
-/// Serves the tasks of the files and writes the report, as `serve_with_failures` does, and gives
-/// the status alone. Nothing is written where the answer is `OutOfMemory`.
+/// Serves the tasks of the files and writes the report, as `serve_with_failures` does, and returns
+/// the status alone. Nothing is written if the answer is `OutOfMemory`.
 pub fn serve_command<W: Workflow + Send, R: Threads + Wait + Sync, O: Write>(
     rt: &R,
     alloc: Global,

@@ -21,7 +21,7 @@ replay d --require-files => replay d, which needs a history
 replay --require-files d e --json => replay d e as JSON, which needs a history
 replay d --progress => replay d, with progress
 replay --progress --progress d => bad line
-serve d --progress => bad line
+serve d --progress --progress => bad line
 replay d --strict-values => replay d, with strict values
 replay --strict-values d --json --require-files => replay d as JSON, which needs a history, with strict values
 explain d/x.json --strict-values => bad line
@@ -80,6 +80,7 @@ serve d --workers 64 --cache 0 --cache-events 512000000 --slots 1000 => serve d,
 serve d --workers 1 --cache 10000 --slots 1 => serve d, workers 1, cache 10000, cache events 0, slots 1
 serve d --workers 4 --slots 4 => serve d, workers 4, cache 100, cache events 0, slots 4
 serve d --require-files => serve d, workers 1, cache 100, cache events 0, slots 100, which needs a history
+serve --progress d => serve d, workers 1, cache 100, cache events 0, slots 100, with progress
 serve d --workers 4 --slots 3 => too few slots
 serve d --workers 65 => bad line
 serve d --workers 0 => bad line
@@ -209,6 +210,12 @@ fn add_flags(rt: &impl Abort, text: &mut String, json: bool, require_files: bool
     text.push_str(need).expect(rt, "memory");
 }
 
+/// What follows a plan's words if progress is asked for.
+fn add_progress(rt: &impl Abort, text: &mut String, progress: bool) {
+    text.push_str(if progress { ", with progress" } else { "" })
+        .expect(rt, "memory");
+}
+
 /// A command with its words.
 fn command_text(rt: &impl Abort, alloc: Global, name: &str, first: &Text, more: &[Text]) -> String {
     let mut text = joined(rt, alloc, name, first.get());
@@ -308,8 +315,7 @@ fn plan_text(rt: &impl Abort, alloc: Global, plan: &Plan) -> String {
                 ""
             };
             text.push_str(strict).expect(rt, "memory");
-            let told = if *progress { ", with progress" } else { "" };
-            text.push_str(told).expect(rt, "memory");
+            add_progress(rt, &mut text, *progress);
             text
         }
         Plan::Explain {
@@ -365,9 +371,11 @@ fn plan_text(rt: &impl Abort, alloc: Global, plan: &Plan) -> String {
             dir,
             options,
             require_files,
+            progress,
         } => {
             let mut text = serve_text(rt, alloc, dir, options);
             add_flags(rt, &mut text, false, *require_files);
+            add_progress(rt, &mut text, *progress);
             text
         }
         Plan::Work { options } => work_text(rt, alloc, options),

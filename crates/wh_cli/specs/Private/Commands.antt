@@ -54,8 +54,8 @@ Obeys program queries lives types (Check file more format) old new status =
     HasCheckedPaths Finds file more.items format old new status
 Obeys program queries lives types (Picture file) old new status = HasDrawnPath Finds file old new status
 Obeys program queries lives types (Try file scenario) old new status = HasTriedPath file scenario old new status
-Obeys program queries lives types (Serve dir options required) old new status =
-    HasServedFolder program types dir (sizes_of options) required old new status
+Obeys program queries lives types (Serve dir options required progress) old new status =
+    HasServedFolder program types dir (sizes_of options) required progress old new status
 Obeys program queries lives types (Work options) old new status = HasWorked lives options old new status
 Obeys program queries lives types (Help text) old new status = HasPrinted text old new status
 

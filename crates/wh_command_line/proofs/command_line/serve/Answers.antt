@@ -6,4 +6,5 @@ returns c =
     (c.subcommand-command.ensures.app, c.subcommand-command.ensures.local) in
     let workers = c.with_number-command.ensures _ folder in
     let sizes = c.with_sizes-command.ensures _ workers in
-    c.with_argument.ensures _ _ c.require_files_argument.ensures.rule c.require_files_argument.ensures.local sizes
+    let required = c.with_argument-command-2.ensures _ _ c.require_files_argument.ensures.rule c.require_files_argument.ensures.local sizes in
+    c.with_argument.ensures _ _ c.progress_argument.ensures.rule c.progress_argument.ensures.local required

@@ -1,8 +1,10 @@
 use Rattle.wh_inputs.specs.Readings.{IsReadAs}
-use Rattle.wh_file_commands.proofs.Batched.{AreBatched}
+use Rattle.wh_file_commands.specs.Batches.{faulty_of}
+use Rattle.wh_progress.proofs.Batched.{AreBatched}
+use Rattle.wh_report.specs.Records.{AreRecordsOf}
 use Rattle.wh_file_commands.proofs.batches.check_batches.Given as goal
 
--- the batches so far were replayed, and told of
+-- the batches so far were replayed, and reported
 abbrev pub invariant-loop-batch : goal.invariant-loop-batch
 invariant-loop-batch g l =
-    AreBatched l.strict g.W.Workflow.program (IsReadAs g.R.InputReader.gives) l.mode l.fn.inputs.items l._batch l.records.items l.left.items l.fn.console l.console
+    AreBatched (AreRecordsOf l.strict g.W.Workflow.program (IsReadAs g.R.InputReader.gives)) faulty_of l.mode l.fn.inputs.items l._batch l.records.items l.left.items l.fn.console l.console

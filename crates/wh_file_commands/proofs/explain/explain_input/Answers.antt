@@ -2,7 +2,7 @@ use Rattle.wh_file_commands.proofs.Steps.{explained_input}
 use Rattle.wh_file_commands.proofs.explain.explain_input.Goals as goal
 
 -- the file that is explained is the one that the input was read as
-pub returns : goal.returns
-returns g c =
+pub returns-clause-explained : goal.returns-clause-explained
+returns-clause-explained g c =
     explained_input g.R.InputReader.gives g.W.Workflow.program c.args.input (c.in_ok-name.name, c.in_ok-name.bytes) c.as_slice.result.now c.args.selection c.args.format
-    c.args.console.now c.explain.new.console c.explain.result c.in_ok-name.ensures.read c.as_slice.ensures.value c.explain.ensures
+    c.args.console.now c.explain.new.console c.explain.result c.in_ok-name.ensures.read c.as_slice.ensures.value c.explain.ensures.explained

@@ -2,11 +2,8 @@ use Rattle.wh_file_commands.proofs.Steps.{explained_path}
 use Rattle.wh_file_commands.proofs.explain.explain_path.Goals as goal
 
 -- the input is that of the path
-pub returns : goal.returns
-returns g c =
+pub returns-clause-explained : goal.returns-clause-explained
+returns-clause-explained g c =
     let input = c.in_ok-input in
-    record {
-      explained =
-          explained_path g.W.Workflow.program c.args.path input.input c.args.selection c.args.format c.args.console.now c.explain_input.new.console
-          c.explain_input.result input.ensures.called input.ensures.from input.ensures.single c.explain_input.ensures;
-    }
+    explained_path g.W.Workflow.program c.args.path input.input c.args.selection c.args.format c.args.console.now c.explain_input.new.console
+    c.explain_input.result input.ensures.called input.ensures.from input.ensures.single c.explain_input.ensures.explained

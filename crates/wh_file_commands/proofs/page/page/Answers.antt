@@ -1,12 +1,26 @@
 use Rattle.std.proofs.Common.{refl}
 use Rattle.std.specs.Prelude.{Ok, string_bytes}
+use Rattle.wh_file_commands.proofs.Refused.{output_failed}
 use Rattle.wh_file_commands.proofs.Steps.{page_ended}
 use Rattle.wh_file_commands.proofs.page.page.Goals as goal
 
 -- the page is out
-pub returns-in-Ok : goal.returns-in-Ok
-returns-in-Ok g c =
+pub returns-in-Ok-clause-paged : goal.returns-in-Ok-clause-paged
+returns-in-Ok-clause-paged g c =
     let own = c.in-Ok in
     page_ended g.W.Workflow.program c.args.only_recorded (string_bytes c.args.name) c.as_str.result.now c.args.bytes.now
     c.args.console.now c.print_page.new.console c.flushed.new.console (Ok own.status) c.flushed.result own.status
     c.as_str.ensures.value own.ensures.quiet own.ensures.paged c.flushed.ensures.quiet c.flushed.ensures.kept refl c.flushed.ensures.status
+
+-- or it can't be put out
+pub returns-in-Ok-clause-refused : goal.returns-in-Ok-clause-refused
+returns-in-Ok-clause-refused g c =
+    output_failed c.args.console.now c.print_page.new.console c.flushed.new.console c.flushed.result
+    c.in-Ok.ensures.quiet c.flushed.ensures.quiet c.flushed.ensures.failure
+
+-- or there is no page
+pub returns-in-Err-clause-refused : goal.returns-in-Err-clause-refused
+returns-in-Err-clause-refused g c = record {
+  quiet = c.in-Err.ensures.quiet;
+  unwritten = λ other. c.in-Err.ensures.unwritten (c.failure_of.ensures other);
+}

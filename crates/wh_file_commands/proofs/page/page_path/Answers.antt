@@ -2,11 +2,8 @@ use Rattle.wh_file_commands.proofs.Steps.{paged_path}
 use Rattle.wh_file_commands.proofs.page.page_path.Goals as goal
 
 -- the input is that of the path
-pub returns : goal.returns
-returns g c =
+pub returns-clause-paged : goal.returns-clause-paged
+returns-clause-paged g c =
     let input = c.in_ok-input in
-    record {
-      paged =
-          paged_path g.W.Workflow.program c.args.only_recorded c.args.path input.input c.args.console.now c.page_input.new.console
-          c.page_input.result input.ensures.called input.ensures.from input.ensures.single c.page_input.ensures;
-    }
+    paged_path g.W.Workflow.program c.args.only_recorded c.args.path input.input c.args.console.now c.page_input.new.console
+    c.page_input.result input.ensures.called input.ensures.from input.ensures.single c.page_input.ensures.paged

@@ -5,8 +5,8 @@ use Rattle.wh_known_types.specs.Types.{known_types_text, lacks_code}
 use Rattle.wh_file_commands.proofs.replay.replay.Goals as goal
 
 -- progress was told, then the report is out, and last the types were told where a file lacks code
-pub returns : goal.returns
-returns g c =
+pub returns-clause-replayed : goal.returns-clause-replayed
+returns-clause-replayed g c =
     let same = c.lack_code-lacking.ensures ∙ ap (λ l. list_any (λ own. lacks_code own.cause) l) c.as_slice.ensures.value in
     record {
       records = c.in_ok-records.records.items;
@@ -14,6 +14,6 @@ returns g c =
       ended = c.end_report.new.console;
       found = c.in_ok-records.ensures.found;
       told = c.in_ok-records.ensures.told;
-      reported = c.in_ok-status.ensures;
+      reported = c.in_ok-status.ensures.reported;
       known = subst (λ lacking. Reported c.end_report.new.console c.report.new.self (known_types_text c.args.types.now lacking)) same c.report.ensures;
     }

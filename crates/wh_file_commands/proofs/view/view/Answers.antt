@@ -1,12 +1,20 @@
 use Rattle.wh_report.specs.Commands.{view_as}
 use Rattle.wh_diagnostics.proofs.Printed.{text_printed}
+use Rattle.wh_file_commands.proofs.Refused.{output_failed, writer_failed}
 use Rattle.wh_file_commands.proofs.Steps.{view_printed}
 use Rattle.wh_file_commands.proofs.view.view.Goals as goal
 
 -- what was printed is the text of the view, and it is out
-pub returns : goal.returns
-returns g c =
+pub returns-clause-viewed : goal.returns-clause-viewed
+returns-clause-viewed g c =
     let own = c.in-Ok in
     let printed = text_printed (view_as c.args.selection c.args.format own.view) c.args.console.now c.print_view-answer.new.console c.flushed.new.console c.print_view-answer.result c.flushed.result
     c.print_view-answer.ensures.printed c.print_view-answer.ensures.ends c.flushed.ensures.quiet c.flushed.ensures.kept c.flushed.ensures.status in
     view_printed c.args.bytes.now own.view c.args.selection c.args.format c.args.console.now c.flushed.new.console c.flushed.result own.ensures.ok printed
+
+-- or it can't be put out
+pub returns-clause-refused : goal.returns-clause-refused
+returns-clause-refused g c =
+    output_failed c.args.console.now c.print_view-answer.new.console c.flushed.new.console c.flushed.result
+    c.print_view-answer.ensures.quiet c.flushed.ensures.quiet
+    (writer_failed c.print_view-answer.result c.flushed.result c.print_view-answer.ensures.output c.flushed.ensures.failure)

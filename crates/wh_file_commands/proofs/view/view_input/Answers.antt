@@ -2,7 +2,7 @@ use Rattle.wh_file_commands.proofs.Steps.{viewed_input}
 use Rattle.wh_file_commands.proofs.view.view_input.Goals as goal
 
 -- the file that is shown is the one that the input was read as
-pub returns : goal.returns
-returns g c =
+pub returns-clause-viewed : goal.returns-clause-viewed
+returns-clause-viewed g c =
     viewed_input g.R.InputReader.gives c.args.input (c.in_ok-name.name, c.in_ok-name.bytes) c.as_slice.result.now c.args.selection c.args.format
-    c.args.console.now c.view.new.console c.view.result c.in_ok-name.ensures.read c.as_slice.ensures.value c.view.ensures
+    c.args.console.now c.view.new.console c.view.result c.in_ok-name.ensures.read c.as_slice.ensures.value c.view.ensures.viewed

@@ -2,11 +2,8 @@ use Rattle.wh_file_commands.proofs.Steps.{viewed_path}
 use Rattle.wh_file_commands.proofs.view.view_path.Goals as goal
 
 -- the input is that of the path
-pub returns : goal.returns
-returns g c =
+pub returns-clause-viewed : goal.returns-clause-viewed
+returns-clause-viewed g c =
     let input = c.in_ok-input in
-    record {
-      viewed =
-          viewed_path c.args.path input.input c.args.selection c.args.format c.args.console.now c.view_input.new.console
-          c.view_input.result input.ensures.called input.ensures.from input.ensures.single c.view_input.ensures;
-    }
+    viewed_path c.args.path input.input c.args.selection c.args.format c.args.console.now c.view_input.new.console
+    c.view_input.result input.ensures.called input.ensures.from input.ensures.single c.view_input.ensures.viewed

@@ -9,7 +9,7 @@ use Rattle.wh_inputs.proofs.listing.all_inputs.Goals as goal
 
 pub loop-path-init : goal.loop-path-init
 loop-path-init g c =
-    listed_one (not c.is_empty-by_path.result) c.args.first c.in_ok-own.own.inputs.items c.in_ok-own.own.left_out c.args.console.now c.inputs_of.new.console c.in_ok-own.ensures
+    listed_one (not c.is_empty-by_path.result) c.args.first c.in_ok-own.own.inputs.items c.in_ok-own.own.left_out c.args.console.now c.inputs_of.new.console c.in_ok-own.ensures.listed
 
 -- the inputs of one path more stand after those before it
 pub loop-path-preserved : goal.loop-path-preserved
@@ -22,7 +22,7 @@ loop-path-preserved g c =
     subst (λ l. AreListed by_path paths l c.is_either-left.result c.args.console.now new) (sym c.in-Ok.ensures.items)
     (subst (λ b. AreListed by_path paths inputs b c.args.console.now new) (sym c.is_either-left.ensures)
     (listed_push by_path (c.args.first ∷ c.loop-path.yielded) c.in-Some.path c.loop-path.inputs.items others.inputs.items c.loop-path.left_out others.left_out c.args.console.now c.loop-path.console new
-    c.loop-path.invariant c.in_ok-others.ensures))
+    c.loop-path.invariant c.in_ok-others.ensures.listed))
 
 -- all paths have been gone over, and files are called by their paths where there are more
 pub returns : goal.returns

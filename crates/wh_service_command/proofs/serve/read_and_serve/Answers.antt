@@ -1,0 +1,17 @@
+use Rattle.wh_service_command.proofs.Steps.{read_alone}
+use Rattle.wh_service_command.proofs.serve.read_and_serve.Goals as goal
+
+-- all was read, but not served
+pub returns-in-Err-OutOfMemory-clause-stopped : goal.returns-in-Err-OutOfMemory-clause-stopped
+returns-in-Err-OutOfMemory-clause-stopped g c =
+    read_alone g.R.InputReader.gives g.W.Workflow.program c.args.inputs.items c.args.mode c.args.console.now c.read_batches.new.console c.in_ok-read.read
+    c.in_ok-read.ensures.read c.in_ok-read.ensures.reported
+
+-- all was read and served
+pub returns-in-Ok-clause-served : goal.returns-in-Ok-clause-served
+returns-in-Ok-clause-served g c = record {
+  read = c.in_ok-read.read;
+  found = c.in_ok-read.ensures.read;
+  reported = c.in_ok-read.ensures.reported;
+  served = c.in-Ok.ensures.served;
+}
