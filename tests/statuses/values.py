@@ -31,6 +31,7 @@ def strict_values(room):
     other = room.folder({"a.json": NAP, "b.json": SLOW, "c.json": with_result(SLOW, b'"done"', b"\xff")})
     bad = room.folder({"b.json": SLOW, "d.json": ENDED})
     long = room.folder({"e.json": with_result(NAP, b"x" * 300)})
+    alike = room.folder({"f.json": with_result(NAP, b"nothing")})
     lines = "a.json: ok, 2 tasks\nb.json: ok, 2 tasks\nc.json: ok, 2 tasks\n3 files, 3 ok\n"
     told = f'''wfhost: b.json: {DURATION}
 wfhost: c.json: {DURATION}
@@ -45,6 +46,7 @@ wfhost: c.json: event 10: result: sends nothing, recorded "done", /w==
     ended = "wfhost: d.json: sends Complete, recorded 10 WorkflowExecutionCanceled\n"
     bad_lines = "b.json: ok, 2 tasks\nd.json: fault, event 10 differs\n2 files, 1 ok\n"
     cut = f"wfhost: e.json: event 10: result: sends nothing, recorded {'x' * 255}\n"
+    encoded = "wfhost: f.json: event 10: result: sends nothing, recorded nothing (json/plain)\n"
     return [
         (["replay", well, "--strict-values"], 0, "a.json: ok, 2 tasks\n1 files, 1 ok\n", ""),
         (["replay", other], 0, lines, ""),
@@ -53,5 +55,6 @@ wfhost: c.json: event 10: result: sends nothing, recorded "done", /w==
         (["replay", bad, "--strict-values"], 1, bad_lines, f"wfhost: b.json: {DURATION}\n{ended}"),
         (["replay", bad], 1, bad_lines, ended),
         (["replay", long, "--strict-values"], 3, "e.json: ok, 2 tasks\n1 files, 1 ok\n", cut),
+        (["replay", alike, "--strict-values"], 3, "f.json: ok, 2 tasks\n1 files, 1 ok\n", encoded),
         (["replay", f"{other}/b.json", "--strict-values"], 3, "b.json: ok, 2 tasks\n1 files, 1 ok\n", f"wfhost: b.json: {DURATION}\n"),
     ]

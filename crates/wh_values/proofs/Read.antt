@@ -41,7 +41,7 @@ fault_by true read fault is = (let same : TooLong ≡ fault = cc in ap Err same)
 fault_by false None fault is = (let same : BadJson ≡ fault = cc in ap Err same)
 fault_by false (Some own) fault is = absurd (cc)
 
--- and where they have none, its fault is that of the history
+-- and if they have none, its fault is that of the history
 fault_of : (bytes : List ℕ) (fault : ReadFault) → document_within bytes ≡ Err fault → history bytes ≡ Err fault
 unfolding history document_within
 fault_of bytes fault is = fault_by (nat_lt longest (length bytes)) (document bytes) fault is

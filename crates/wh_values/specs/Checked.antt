@@ -20,12 +20,12 @@ abbrev pub members_of : Result Data ReadFault → List Data
 members_of (Ok d) = members_or_none (events_in d)
 members_of (Err fault) = []
 
--- the values of tasks that differ, where the replay is good
+-- the values of tasks that differ, if the replay is good
 abbrev pub values_if : (good : Bool) → List Data → List ExplainedTask → List OtherValue
 values_if true members tasks = values_in members tasks
 values_if false members tasks = []
 
--- the values of a file with this verdict that differ: those of its tasks where its replay is good, and else none
+-- the values of a file with this verdict that differ: those of its tasks if its replay is good, and else none
 pub record AreOtherValues {S : Type 0} (program : Program S) (bytes : List ℕ) (verdict : Verdict)
     (values : List OtherValue) : Type 0 where
   pub tasks : List ExplainedTask

@@ -15,8 +15,8 @@ use Rattle.wh_values.specs.Values.{value_of}
 abbrev pub attributes_at : List Data → ℕ → Option Data
 attributes_at members number = option_and_then attributes_in (slice_get members (number - 1))
 
--- the value that differs of a command and the event that records it, if one does; a command that differs from the record
--- has none
+-- the value that differs of a command and the event that records it, if one does; a command that differs from the
+-- record has none
 abbrev pub pairing_value : List Data → Pairing → Option OtherValue
 pairing_value members (Alike command event) =
     value_of event.number command (attributes_at members event.number)

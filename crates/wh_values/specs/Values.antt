@@ -8,7 +8,7 @@ use Rattle.wh_json.specs.Fields.{field, text_of}
 use Rattle.wh_json.specs.Payloads.{payloads_at}
 use Rattle.wh_workflow.specs.declared.command.Command.{Command}
 use Rattle.wh_workflow.specs.declared.command.Command.TheVariants as commands
-use Rattle.wh_values.specs.Sides.{side_text}
+use Rattle.wh_values.specs.Sides.{look_alike, side_text}
 use Rattle.wh_values.specs.declared.comparing.OtherValue.{OtherValue}
 use Rattle.wh_values.specs.declared.comparing.ValueKind.{ValueKind}
 use Rattle.wh_values.specs.declared.comparing.ValueKind.TheVariants.{Input, Result as Outcome, Duration, Failure}
@@ -35,11 +35,13 @@ other_value number kind sent recorded =
 abbrev pub unless_same : Bool → OtherValue → Option OtherValue
 unless_same same value = if same then None else Some value
 
--- the payloads, unless they are those that were read; payloads that can't be read are not compared
+-- the payloads, with their encodings if both sides look alike without them, unless they are those that were read;
+-- payloads that can't be read are not compared
 abbrev pub read_value : ℕ → ValueKind → List Payload → Result (List Payload) ReadFault → Option OtherValue
 read_value number kind sent (Ok recorded) =
+    let encoded = look_alike sent recorded in
     unless_same (pointwise same_payload sent recorded)
-    (other_value number kind (side_text sent) (side_text recorded))
+    (other_value number kind (side_text encoded sent) (side_text encoded recorded))
 read_value number kind sent (Err fault) = None
 
 -- the payloads, unless attributes have them under a name

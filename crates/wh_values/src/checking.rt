@@ -1,6 +1,6 @@
 //! Replays a file, and finds its values that differ from what it records.
 
-ghost use Rattle.std.specs.Prelude.{◌≡◌, ◌≢◌, ◌≤◌, ℕ, List, IfErr, IfOk, IfSome, Ok, Some, length, map, true};
+ghost use Rattle.std.specs.Prelude.{◌≡◌, ◌≢◌, ◌≤◌, ℕ, List, IfErr, IfOk, IfSome, Ok, Some, [], length, map, true};
 ghost use Rattle.serde_json.specs.View.{view};
 ghost use Rattle.wh_explain.specs.Differences.{IsDifferenceIn};
 ghost use Rattle.wh_explain.specs.Explaining.{unknown_in};
@@ -21,7 +21,7 @@ use wh_json::{ReadFault, events_in, read_document, read_members};
 use wh_tester::{Verdict, is_good};
 use wh_workflow::Workflow;
 
-/// The values that differ of tasks, where the replay is good.
+/// The values that differ of tasks, if the replay is good.
 fn values_if(
     alloc: Global,
     verdict: &Verdict,
@@ -89,14 +89,15 @@ fn find_in_bytes<W: Workflow>(
     }
 }
 
-/// Replays a history file with the code of `W`, and gives what `wh_explain::check_file` finds, and the
-/// values of a file whose replay is good that differ from what it records: inputs and results by the
-/// encodings and the bytes of their payloads, durations of timers and messages of failures by their
-/// texts. What the history lacks, or has in a form that can't be read, is not compared, but for
-/// payloads that are absent, which are none. There are no such values of a file that is not good.
+/// Replays a history file with the code of `W`, and gives what `wh_explain::check_file` finds, and
+/// the values of a file whose replay is good that differ from what it records: inputs and results
+/// by the encodings and the bytes of their payloads, durations of timers and messages of failures
+/// by their texts. What the history lacks, or has in a form that can't be read, is not compared,
+/// but for payloads that are absent, which are none. There are no such values of a file that is not
+/// good.
 ///
-/// The file is parsed once and its history is replayed once. `Verdict::OutOfMemory` can come in place
-/// of every verdict but that of a file that is too long; nothing else is found then.
+/// The file is parsed once and its history is replayed once. `Verdict::OutOfMemory` can come in
+/// place of every verdict but that of a file that is too long; then no values differ.
 pub fn check_values<W: Workflow>(alloc: Global, bytes: &[u8]) -> (Finding, Vec<OtherValue>)
     ensures verdict { IsVerdict W.program bytes.now result.0.verdict }
     ensures unknown { result.0.verdict ≢ Verdict.OutOfMemory
@@ -106,6 +107,7 @@ pub fn check_values<W: Workflow>(alloc: Global, bytes: &[u8]) -> (Finding, Vec<O
         → IsDifferenceIn W.program bytes.now result.0.difference }
     ensures values { result.0.verdict ≢ Verdict.OutOfMemory
         → AreOtherValues W.program bytes.now result.0.verdict result.1.items }
+    ensures none { result.0.verdict ≡ Verdict.OutOfMemory → result.1.items ≡ [] }
 {
     match find_in_bytes::<W>(alloc, bytes) {
         Ok(found) => found,

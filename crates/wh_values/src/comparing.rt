@@ -5,7 +5,7 @@ ghost use Rattle.std.specs.Cmp.Lexicographic.{pointwise};
 ghost use Rattle.serde_json.specs.View.{view};
 ghost use Rattle.wh_values.specs.Values as values;
 
-use crate::sides::side_text;
+use crate::sides::{look_alike, side_text};
 use serde_json::Value;
 use std::alloc::Global;
 use wh_events::{EventNo, OutOfMemory, Payload, Text};
@@ -26,8 +26,9 @@ pub enum ValueKind {
 }
 
 /// A value of a command that differs from what its event records. Payloads stand in it with commas
-/// between them, each by its content where that is a text in UTF-8, and else by its content in base64
-/// (RFC 4648); `nothing` stands for no payload.
+/// between them, each by its content if that is a text in UTF-8, and else by its content in base64
+/// (RFC 4648); `nothing` stands for no payload. If both sides have one text so, the encoding of
+/// each payload follows it in parentheses, as `1 (json/plain)`, or `(no encoding)`.
 #[derive(Drop)]
 pub struct OtherValue {
     /// The number of the event.
@@ -69,7 +70,8 @@ fn is_recorded(sent: &str, recorded: &str) -> bool
     recorded.is_empty() || sent == recorded
 }
 
-/// The payloads, unless they are those that were read.
+/// The payloads, with their encodings if both sides look alike without them, unless they are those
+/// that were read.
 fn read_value(
     alloc: Global,
     number: EventNo,
@@ -82,8 +84,9 @@ fn read_value(
     if same_payloads(sent, recorded) {
         return Ok(None);
     }
-    let sent = side_text(alloc, sent)?;
-    let recorded = side_text(alloc, recorded)?;
+    let encoded = look_alike(alloc, sent, recorded)?;
+    let sent = side_text(alloc, encoded, sent)?;
+    let recorded = side_text(alloc, encoded, recorded)?;
     Ok(Some(OtherValue {
         event: number,
         kind,

@@ -40,7 +40,8 @@ impl fmt::Display for OtherValueText<'_> {
     }
 }
 
-/// The same as an object in JSON (RFC 8259): its members are `event`, `kind`, `sent` and `recorded`.
+/// The same as an object in JSON (RFC 8259): its members are `event`, `kind`, `sent` and
+/// `recorded`.
 #[derive(Drop)]
 pub struct OtherValueObject<'a>(pub &'a OtherValue);
 

@@ -18,7 +18,9 @@ greet | 'activityId':'1' -> 'activityId':'1','input':[1] => none
 greet | {'workflowType' -> {'input':{'payloads':[{'data':'QQ=='}]},'workflowType' => event 5: input: sends A, recorded nothing
 greet | {'workflowType' -> {'input':{'payloads':[{'data':'QQ=='}]},'workflowType' | 'activityId':'1' -> 'activityId':'1','input':{'payloads':[{'data':'QQ=='}]} => none
 greet | {'workflowType' -> {'input':{'payloads':[{'data':'QQ=='}]},'workflowType' | 'activityId':'1' -> 'activityId':'1','input':{'payloads':[{'data':'Qg=='}]} => event 5: input: sends A, recorded B
-greet | {'workflowType' -> {'input':{'payloads':[{'data':'QQ=='}]},'workflowType' | 'activityId':'1' -> 'activityId':'1','input':{'payloads':[{'metadata':{'encoding':'anNvbi9wbGFpbg=='},'data':'QQ=='}]} => event 5: input: sends A, recorded A
+greet | {'workflowType' -> {'input':{'payloads':[{'data':'QQ=='}]},'workflowType' | 'activityId':'1' -> 'activityId':'1','input':{'payloads':[{'metadata':{'encoding':'anNvbi9wbGFpbg=='},'data':'QQ=='}]} => event 5: input: sends A (no encoding), recorded A (json/plain)
+greet | {'workflowType' -> {'input':{'payloads':[{'data':'QSwgQg=='}]},'workflowType' | 'activityId':'1' -> 'activityId':'1','input':{'payloads':[{'data':'QQ=='},{'data':'Qg=='}]} => event 5: input: sends A, B (no encoding), recorded A (no encoding), B (no encoding)
+greet | 'activityId':'1' -> 'activityId':'1','input':{'payloads':[{'data':'bm90aGluZw=='}]} => event 5: input: sends nothing, recorded nothing (no encoding)
 nap | 'WorkflowExecutionCompleted' -> 'WorkflowExecutionCompleted','workflowExecutionCompletedEventAttributes':{'result':{'payloads':[{'data':'QQ=='}]}} => event 10: result: sends nothing, recorded A
 nap | 'timerId':'nap' -> 'timerId':'nap','startToFireTimeout':'6s' | 'WorkflowExecutionCompleted' -> 'WorkflowExecutionCompleted','workflowExecutionCompletedEventAttributes':{'result':{'payloads':[{},{'data':'QQ=='}]}} => event 5: duration: sends 60s, recorded 6s, event 10: result: sends nothing, recorded , A
 greet/5 activity_failed:5 S T C failed => none

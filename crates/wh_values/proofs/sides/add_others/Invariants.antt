@@ -7,4 +7,4 @@ use Rattle.wh_values.proofs.sides.add_others.Given as goal
 -- the payloads so far were added
 abbrev pub invariant-loop-payload : goal.invariant-loop-payload
 invariant-loop-payload l =
-    string_bytes l.text ≡ string_bytes l.initial.text ++ flat_map after_comma (take l.payload-index l.payloads)
+    string_bytes l.text ≡ string_bytes l.initial.text ++ flat_map (after_comma l.encoded) (take l.payload-index l.payloads)
