@@ -8,7 +8,8 @@ use Rattle.wh_metrics.specs.Times.{seconds_text}
 -- what stands before the samples of a metric: what it means, and its type
 abbrev pub head_text : (name kind help : List ℕ) → List ℕ
 head_text name kind help =
-    codes "# HELP " ++ (name ++ (codes " " ++ (help ++ (codes "\n# TYPE " ++ (name ++ (codes " " ++ (kind ++ codes "\n")))))))
+    codes "# HELP " ++ (name ++ (codes " " ++ (help
+    ++ (codes "\n# TYPE " ++ (name ++ (codes " " ++ (kind ++ codes "\n")))))))
 
 -- a sample: `NAME{LABELS} VALUE`, with more labels after those of the process
 abbrev pub sample_text : (name labels more : List ℕ) → ℕ → List ℕ
@@ -26,7 +27,8 @@ pair_text name kind help labels first one second other =
 
 abbrev pub tasks_text : (labels : List ℕ) → Metrics → List ℕ
 tasks_text labels metrics =
-    pair_text (codes "wfhost_tasks_total") (codes "counter") (codes "Tasks that were answered, by their outcome.") labels
+    pair_text (codes "wfhost_tasks_total") (codes "counter")
+    (codes "Tasks that were answered, by their outcome.") labels
     (codes ",outcome=\"completed\"") metrics.completed (codes ",outcome=\"failed\"") metrics.failed
 
 abbrev pub hits_text : (labels : List ℕ) → Metrics → List ℕ
@@ -92,7 +94,8 @@ cached_text labels held =
     single_text (codes "wfhost_sticky_cache_size") (codes "gauge")
     (codes "Runs in the sticky cache.") labels held.cached
     ++ single_text (codes "wfhost_sticky_cache_events") (codes "gauge")
-    (codes "Weight of the cached runs: one for each event and each whole KiB of a run's input.") labels held.cached_events
+    (codes "Weight of the cached runs: one for each event and each whole KiB of a run's input.")
+    labels held.cached_events
 
 abbrev pub cache_text : (labels : List ℕ) → Held → List ℕ
 cache_text labels held =
@@ -110,7 +113,7 @@ slots_text labels held =
     workflow_label held.workflow.available
     activity_label held.activity.available
 
--- what the host holds, where it is known
+-- what the host holds, if it is known
 abbrev pub holdings_text : (labels : List ℕ) → Option Held → List ℕ
 holdings_text labels None = []
 holdings_text labels (Some held) = cache_text labels held ++ slots_text labels held

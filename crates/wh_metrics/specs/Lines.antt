@@ -6,12 +6,12 @@ use Rattle.wh_metrics.specs.declared.metrics.Slots.{Slots}
 use Rattle.wh_metrics.specs.declared.metrics.TaskTimes.{TaskTimes}
 use Rattle.wh_metrics.specs.Times.{milliseconds_text}
 
--- `in hand <in hand>, cached <runs> runs with <events> events, `, or nothing where it is not known
+-- `in hand <in hand>, cached <runs> runs with <weight> events and KiB of input, `, or nothing if it is not known
 abbrev pub held_text : Option Held → List ℕ
 held_text None = []
 held_text (Some held) =
     codes "in hand " ++ (decimal held.in_hand ++ (codes ", cached " ++ (decimal held.cached
-    ++ (codes " runs with " ++ (decimal held.cached_events ++ codes " events, ")))))
+    ++ (codes " runs with " ++ (decimal held.cached_events ++ codes " events and KiB of input, ")))))
 
 -- `<count> in <sum> ms, longest <longest> ms`
 abbrev pub times_text : TaskTimes → List ℕ
@@ -25,7 +25,8 @@ kinds_text metrics =
     codes ", workflow tasks " ++ (times_text metrics.workflow_times
     ++ (codes ", activity tasks " ++ times_text metrics.activity_times))
 
--- `completed <completed>, failed <failed>, <held>hits <hits>, misses <misses>, <rate> tasks a second`, and the times of tasks
+-- `completed <completed>, failed <failed>, <held>hits <hits>, misses <misses>, <rate> tasks a second`, and the times of
+-- tasks
 abbrev pub counts_text : Metrics → (rate : ℕ) → List ℕ
 counts_text metrics rate =
     codes "completed " ++ (decimal metrics.completed ++ (codes ", failed " ++ (decimal metrics.failed
@@ -47,7 +48,7 @@ slots_json slots =
     codes "{" ++ (member (codes "used") (decimal slots.used)
     ++ (next (codes "available") (decimal slots.available) ++ codes "}"))
 
--- what the host holds, where it is known: tasks, the runs of the cache and their events, and slots
+-- what the host holds, if it is known: tasks, the runs of the cache and their weight, and slots
 abbrev pub held_json : Option Held → List ℕ
 held_json None = []
 held_json (Some held) =

@@ -432,7 +432,7 @@ impl fmt::Display for Cached<'_> {
     }
 }
 
-/// Tasks in hand, and what the cache holds.
+/// Tasks that are being processed, and what the cache holds.
 #[derive(Clone, Copy)]
 struct Cache<'a> {
     labels: WorkerLabels<'a>,
@@ -496,7 +496,7 @@ impl fmt::Display for SlotUse<'_> {
     }
 }
 
-/// What the host holds, where that is known.
+/// What the host holds, if that is known.
 #[derive(Clone, Copy)]
 struct Holdings<'a> {
     labels: WorkerLabels<'a>,
@@ -518,10 +518,10 @@ impl fmt::Display for Holdings<'_> {
     }
 }
 
-/// The counts of a process, as the text that Prometheus reads: of each metric what it means, its type
-/// and its samples, each ended by a line feed (Prometheus documentation, "Exposition formats"). The
-/// names are those of Temporal's documentation ("SDK metrics reference") where a metric of it means
-/// the same. What the host holds is left out where that is not known.
+/// The counts of a process, as the text that Prometheus reads: of each metric what it means, its
+/// type and its samples, each ended by a line feed (Prometheus documentation, "Exposition
+/// formats"). The names are those of Temporal's documentation ("SDK metrics reference") if a metric
+/// of it means the same. What the host holds is omitted if that is not known.
 #[derive(Clone, Copy, Debug)]
 pub struct Exposition<'a> {
     /// Whose counts they are.

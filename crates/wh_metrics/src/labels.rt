@@ -1,4 +1,4 @@
-//! The labels by which Prometheus tells workers apart.
+//! The labels that distinguish workers in Prometheus.
 
 ghost use Rattle.std.specs.Prelude.{◌≡◌, MatchOption, None, Some};
 ghost use Rattle.std.specs.Fmt.{DisplaysOnOk};
@@ -6,15 +6,15 @@ ghost use Rattle.wh_metrics.specs.Labels.{escape_of, escaped, escaped_char, labe
 
 use std::fmt;
 
-/// Whose counts they are. It tells the files of several processes apart, since no two samples of a
-/// scrape may have the same name and labels.
+/// Whose counts they are. It distinguishes the files of several processes, since no two samples of
+/// a scrape may have the same name and labels.
 #[derive(Clone, Copy, Debug)]
 pub struct WorkerLabels<'a> {
     /// The namespace of the Task Queue.
     pub namespace: &'a str,
     /// The Task Queue.
     pub task_queue: &'a str,
-    /// The name by which the server knows the process.
+    /// The name that the server knows the process by.
     pub identity: &'a str,
 }
 
@@ -87,8 +87,8 @@ impl fmt::Display for Label<'_> {
     }
 }
 
-/// The labels of each sample, as they stand between its braces. A `\` stands before `\` and `"`, and
-/// `\n` in place of a line feed.
+/// The labels of each sample, as they stand between its braces. A `\` stands before `\` and `"`,
+/// and `\n` in place of a line feed.
 impl fmt::Display for WorkerLabels<'_> {
     ghost output = { λ w. Some (labels_text w.namespace.now w.task_queue.now w.identity.now) };
 

@@ -8,7 +8,7 @@ use crate::metrics::{Held, Metrics, Slots, TaskTimes};
 use crate::times::Milliseconds;
 use std::fmt;
 
-/// What the host holds, in words, with a comma behind it; nothing where that is not known.
+/// What the host holds, in words, with a comma behind it; nothing if that is not known.
 #[derive(Clone, Copy)]
 struct HeldText(Option<Held>);
 
@@ -27,7 +27,7 @@ impl fmt::Display for HeldText {
         } = held;
         write!(
             f,
-            "in hand {in_hand}, cached {cached} runs with {cached_events} events, "
+            "in hand {in_hand}, cached {cached} runs with {cached_events} events and KiB of input, "
         )
     }
 }
@@ -61,7 +61,7 @@ impl fmt::Display for KindsText {
     }
 }
 
-/// Counts in words: the tasks by their outcome, what the host holds where that is known, workflow
+/// Counts in words: the tasks by their outcome, what the host holds if that is known, workflow
 /// tasks with a cached run and without one, how many tasks were answered a second, and how long the
 /// tasks of each kind took.
 #[derive(Clone, Copy, Debug)]
@@ -106,7 +106,7 @@ impl fmt::Display for SlotsJson {
     }
 }
 
-/// What the host holds, as members of an object of JSON, each with a comma before it; none where that
+/// What the host holds, as members of an object of JSON, each with a comma before it; none if that
 /// is not known.
 #[derive(Clone, Copy)]
 struct HeldJson(Option<Held>);
@@ -151,7 +151,8 @@ impl fmt::Display for TimesJson {
     }
 }
 
-/// How long the tasks of each kind took, as members of an object of JSON, each with a comma before it.
+/// How long the tasks of each kind took, as members of an object of JSON, each with a comma before
+/// it.
 #[derive(Clone, Copy)]
 struct KindsJson(Metrics);
 

@@ -24,7 +24,7 @@ pub struct TaskTimes {
 /// What a host holds now.
 #[derive(Clone, Copy, PartialEq, Eq, Debug)]
 pub struct Held {
-    /// Tasks in hand, of both kinds.
+    /// Tasks that are being processed, of both kinds.
     pub in_hand: u64,
     /// Runs in the sticky cache.
     pub cached: u64,
@@ -43,7 +43,7 @@ pub struct Metrics {
     pub completed: u64,
     /// Tasks that failed.
     pub failed: u64,
-    /// What the host holds, where that is known.
+    /// What the host holds, if that is known.
     pub held: Option<Held>,
     /// Workflow tasks that were answered from a cached run.
     pub hits: u64,
