@@ -8,7 +8,7 @@ use std::process::ExitCode;
 use std::{env, thread};
 use wh_cli::{calls_over, no_memory, read_input, run_with_heartbeats};
 
-/// The workflow types that there is code for.
+/// The registered workflow types.
 const TYPES: &str = "Order";
 
 /// Whether a word stands after the program's name.

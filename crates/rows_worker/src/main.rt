@@ -7,7 +7,7 @@ use std::process::ExitCode;
 use std::thread;
 use wh_cli::{NoActivities, calls_over, no_memory, read_input, run_with_types};
 
-/// The workflow types that there is code for.
+/// The registered workflow types.
 const TYPES: &str = "Nap, Family, Order, Plan, Subscription, Booking";
 
 fn main(rt: HostRuntime) -> ExitCode {

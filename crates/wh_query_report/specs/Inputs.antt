@@ -14,7 +14,7 @@ is_json word = is_some (document word)
 abbrev pub json_input : List ℕ → Option Payload
 json_input word = if is_json word then Some (json_payload word) else None
 
--- the query of a type with these words as its arguments, where each of them is a JSON text
+-- the query of a type with these words as its arguments, if each of them is a JSON text
 abbrev pub query_of : List ℕ → List (List ℕ) → Option Query
 query_of query_type words =
     if list_all is_json words then Some (record { query_type = query_type; input = map json_payload words }) else None

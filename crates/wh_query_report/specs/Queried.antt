@@ -21,17 +21,17 @@ abbrev pub is_answered : QueryResult → Bool
 is_answered (Answered payloads) = true
 is_answered (Failed reason) = false
 
--- 0 where the file is good and the query was answered, and else 1
+-- 0 if the file is good and the query was answered, and else 1
 abbrev pub status_of : Queried → ℕ
 status_of queried = if is_good queried.own.line.verdict && is_answered queried.given then 0 else 1
 
--- what a query gave; where the history can't be replayed it fails with the text of the fault
+-- what a query gave; if the history can't be replayed it fails with the text of the fault
 abbrev pub replayed_result : Result QueryResult Fault → QueryResult
 replayed_result (Ok given) = given
 replayed_result (Err fault) = Failed (replay_fault_text fault)
 
 module _ {S : Type 0} where
-  -- what a query gives at what was read; where nothing could be read it fails with the text of that fault
+  -- what a query gives at what was read; if nothing could be read it fails with the text of that fault
   abbrev pub read_result : Program S → Queries S → Result (List Event) ReadFault → Query → QueryResult
   read_result program queries (Ok events) query =
       replayed_result (query_at program queries events query.query_type query.input)

@@ -25,7 +25,7 @@ fn is_answered(given: &QueryResult) -> bool
     }
 }
 
-/// The status of a query: 0 where the file is good and the query was answered, and else 1.
+/// The status of a query: 0 if the file is good and the query was answered, and else 1.
 pub fn status_of(queried: &Queried) -> u8
     ensures { result ≡ status_of queried.now }
 {
@@ -67,11 +67,11 @@ fn write_all<O: Write>(
 }
 
 /// Writes what came of a query: what the report of replay has of the file, and then the result. A
-/// payload that is a JSON text under the encoding `json/plain`, on one line, is written as it is, and
-/// any other as an object with its encoding and its content in base64 (RFC 4648). As text each
-/// payload has a line, and so has the reason of a query that failed; as JSON (RFC 8259) the result is
-/// an object on a line, with `queryResult`, a list of the payloads, or `queryFailed`, the reason.
-/// Nothing is written where the answer is `OutOfMemory`.
+/// payload that is a JSON text under the encoding `json/plain`, on one line, is written as it is,
+/// and any other as an object with its encoding and its content in base64 (RFC 4648). As text each
+/// payload has a line, and so has the reason of a query that failed; as JSON (RFC 8259) the result
+/// is an object on a line, with `queryResult`, a list of the payloads, or `queryFailed`, the
+/// reason. Nothing is written if the answer is `OutOfMemory`.
 pub fn write_queried<O: Write>(
     alloc: Global,
     queried: &Queried,
@@ -88,8 +88,8 @@ pub fn write_queried<O: Write>(
     write_all(&queried.own, format, text.as_slice(), writer)
 }
 
-/// Queries a history file, given by name and bytes, with the code of `W`, writes what came of it, and
-/// gives that. Nothing is written where the answer is `OutOfMemory`.
+/// Queries a history file, given by name and bytes, with the code of `W`, writes what came of it,
+/// and gives that. Nothing is written if the answer is `OutOfMemory`.
 pub fn query_command<W: Queryable, O: Write>(
     alloc: Global,
     file: (String, Vec<u8>),

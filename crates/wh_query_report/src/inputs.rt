@@ -60,8 +60,8 @@ fn json_payloads(alloc: Global, words: &[Text]) -> Result<Vec<Payload>, OutOfMem
 }
 
 /// The query of a type with words of the command line as its arguments: each is a payload with its
-/// bytes under the encoding `json/plain`. `None` where one of them is no JSON text (RFC 8259).
-/// `OutOfMemory` where there was no memory for the payloads.
+/// bytes under the encoding `json/plain`. `None` if one of them is no JSON text (RFC 8259).
+/// `OutOfMemory` if there was no memory for the payloads.
 pub fn query_of(
     alloc: Global,
     query_type: Text,

@@ -62,9 +62,9 @@ fn query_bytes<W: Queryable>(
     }
 }
 
-/// Queries a history file, given by name and bytes, with the code of `W`, at the state that its last
-/// task leaves, whether or not that is completed or the run is closed. Where the file can't be read
-/// or replayed the query fails with the text of that fault. `OutOfMemory` where an allocation was
+/// Queries a history file, given by name and bytes, with the code of `W`, at the state that its
+/// last task leaves, whether or not that is completed or the run is closed. If the file can't be
+/// read or replayed the query fails with the text of that fault. `OutOfMemory` if an allocation was
 /// refused; it may also be the verdict of the record.
 pub fn query_file<W: Queryable>(
     alloc: Global,
