@@ -38,7 +38,6 @@ use Rattle.wh_report.specs.Commands.{IsExplained, view_as}
 use Rattle.wh_report.specs.Reports.{records_status, report_as, status_of}
 use Rattle.wh_report.specs.Records.{AreRecordsOf}
 use Rattle.wh_report.specs.declared.records.Record.{Record}
-use Rattle.wh_tester.specs.Verdicts.{IsVerdict}
 use Rattle.wh_tester.specs.declared.line.Line.{Line}
 use Rattle.wh_view.specs.Views.{IsViewIn}
 use Rattle.wh_view.specs.declared.view.View.{View}
@@ -61,37 +60,36 @@ report_ended records seen format lacks old first between new (Ok given) own stat
 report_ended records seen format lacks old first between new (Err fault) own status same printed ends quiet kept is reported given_status = absurd cc
 
 -- the explanation of a file that was written stays
-explained_kept : {S : Type 0} (program : Program S) (name bytes : List ℕ) (selection : Option Selection) (format : Format) (a b c : Option (List ℕ)) (status : ℕ)
-    → IsExplained program name bytes selection format a b status → Keeps b c → IsExplained program name bytes selection format a c status
-explained_kept program name bytes selection format a b c status h kept = record {
+explained_kept : {S : Type 0} (program : Program S) (name bytes : List ℕ) (selection : Option Selection) (format : Format) (a b c : Option (List ℕ)) (line : Line)
+    → IsExplained program name bytes selection format a b line → Keeps b c → IsExplained program name bytes selection format a c line
+explained_kept program name bytes selection format a b c line h kept = record {
   explanation = h.explanation;
   view = h.view;
   tasks = h.tasks;
   unknown = h.unknown;
+  line = h.line;
   named = h.named;
   verdict = h.verdict;
   viewed = h.viewed;
   written = written_kept a b c _ h.written kept;
-  ends = h.ends;
 }
 
 -- a file was explained, and once that was out at most one line was reported of it
 pub explanation_ended : {S : Type 0} (program : Program S) (name bytes : List ℕ) (selection : Option Selection) (format : Format) (old first between new : ConsoleView) (line : Line) (answer : Result ℕ CommandFault) (given status : ℕ)
-    → IsQuiet old first → IsExplained program name bytes selection format old.output first.output (status_of (line ∷ []))
+    → IsQuiet old first → IsExplained program name bytes selection format old.output first.output line
     → IsQuiet first between → Keeps first.output between.output
-    → line.name ≡ name → IsVerdict program bytes line.verdict → HasReportedFault line.name line.verdict bytes between new
+    → HasReportedFault line bytes between new
     → given ≡ status_of (line ∷ []) → answer ≡ Ok given → answer ≡ Ok status
     → HasExplained program name bytes selection format old new status
-explanation_ended program name bytes selection format old first between new line answer given status quiet explained more kept named judged reported is same_given same_status =
+explanation_ended program name bytes selection format old first between new line answer given status quiet explained more kept reported is same_given same_status =
     let same : given ≡ status = cc in
     record {
       between = between;
       quiet = quiet_twice old first between quiet more;
-      explained = subst (IsExplained program name bytes selection format old.output between.output) (sym is ∙ same)
-          (explained_kept program name bytes selection format old.output first.output between.output (status_of (line ∷ [])) explained kept);
-      verdict = line.verdict;
-      judged = judged;
-      reported = subst (λ n. HasReportedFault n line.verdict bytes between new) named reported;
+      line = line;
+      explained = explained_kept program name bytes selection format old.output first.output between.output line explained kept;
+      reported = reported;
+      ends = sym same ∙ is;
     }
 
 -- an input that was read as a file was explained

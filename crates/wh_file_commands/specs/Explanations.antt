@@ -1,5 +1,5 @@
 -- What the explanation of a file writes and reports.
-use Rattle.std.specs.Prelude.{◌≡◌, ℕ, List, false, Option, string_bytes}
+use Rattle.std.specs.Prelude.{◌≡◌, ℕ, List, [], ◌∷◌, false, Option, string_bytes}
 use Rattle.wh_console.specs.Consoles.{ConsoleView, IsQuiet, Reported}
 use Rattle.wh_console.specs.declared.format.Format.{Format}
 use Rattle.wh_diagnostics.specs.Diagnostics.{fault_lines}
@@ -9,27 +9,28 @@ use Rattle.wh_files.specs.Inputs.{IsCalled, IsOf, IsReadFrom, IsSingle}
 use Rattle.wh_files.specs.declared.Input.{Input}
 use Rattle.wh_inputs.specs.Readings.{Gives, IsReadAs}
 use Rattle.wh_report.specs.Commands.{IsExplained}
-use Rattle.wh_tester.specs.Verdicts.{IsVerdict}
-use Rattle.wh_tester.specs.declared.line.Verdict.{Verdict}
+use Rattle.wh_report.specs.Reports.{status_of}
+use Rattle.wh_tester.specs.declared.line.Line.{Line}
 use Rattle.wh_view_report.specs.declared.text.Selection.{Selection}
 use Rattle.wh_workflow.specs.Law.{Program}
 
--- a line was reported of a file where its verdict is that it is no JSON, and else nothing
-pub record HasReportedFault (name : List ℕ) (verdict : Verdict) (bytes : List ℕ) (old new : ConsoleView) : Type 0 where
+-- where the file of this line is no JSON was reported if that is its verdict, and else nothing
+pub record HasReportedFault (line : Line) (bytes : List ℕ) (old new : ConsoleView) : Type 0 where
   pub fault : Option FileFault
-  pub own : IsFaultOf (IsUnreadCause verdict) name bytes fault
+  pub own : IsFaultOf (IsUnreadCause line.verdict) line.name bytes fault
   pub reported : Reported old new (fault_lines (reports_of fault))
 
--- a file was explained, and then a line was reported of it where its verdict is that it is no JSON
+-- a file was explained, and then where it is no JSON was reported if that is the verdict of the line that its explanation
+-- has; the status is that of this line
 pub record HasExplained {S : Type 0} (program : Program S) (name bytes : List ℕ) (selection : Option Selection)
     (format : Format)
     (old new : ConsoleView) (status : ℕ) : Type 0 where
   pub between : ConsoleView
   pub quiet : IsQuiet old between
-  pub explained : IsExplained program name bytes selection format old.output between.output status
-  pub verdict : Verdict
-  pub judged : IsVerdict program bytes verdict
-  pub reported : HasReportedFault name verdict bytes between new
+  pub line : Line
+  pub explained : IsExplained program name bytes selection format old.output between.output line
+  pub reported : HasReportedFault line bytes between new
+  pub ends : status ≡ status_of (line ∷ [])
 
 -- an input was read as a file, and explained
 pub record HasExplainedInput {S : Type 0} (gives : Gives) (program : Program S) (input : Input)

@@ -1,13 +1,11 @@
 //! The command `explain`.
 
-ghost use Rattle.std.specs.Prelude.{◌≡◌, ◌∷◌, [], IfErr, IfOk, OnOk, string_bytes};
+ghost use Rattle.std.specs.Prelude.{IfErr, IfOk, OnOk, string_bytes};
 ghost use Rattle.wh_console.specs.Consoles.{IsQuiet};
 ghost use Rattle.wh_file_commands.specs.Explanations.{HasExplained, HasExplainedInput, HasExplainedPath};
 ghost use Rattle.wh_file_commands.specs.Explanations.{HasReportedFault};
 ghost use Rattle.wh_file_faults.specs.Faults.{IsFaultOf, IsUnreadCause};
 ghost use Rattle.wh_report.specs.Commands.{IsExplained};
-ghost use Rattle.wh_report.specs.Reports.{status_of};
-ghost use Rattle.wh_tester.specs.Verdicts.{IsVerdict};
 
 use std::alloc::Global;
 use std::io::Write;
@@ -42,7 +40,7 @@ fn report_if_bad<O: Write, E: Write>(
     bytes: &[u8],
     console: &mut Console<'_, O, E>,
 ) -> Result<(), Failure>
-    ensures fault { OnOk result (HasReportedFault line.name line.verdict bytes.now console.old console.new) }
+    ensures fault { OnOk result (HasReportedFault line bytes.now console.old console.new) }
     ensures quiet { IfErr result (λ _. IsQuiet console.old console.new) }
 {
     match unread_fault(alloc, line, bytes) {
@@ -63,10 +61,8 @@ fn print_explanation<W: Workflow, O: Write, E: Write>(
     console: &mut Console<'_, O, E>,
 ) -> Result<Line, CommandFault>
     ensures quiet { IsQuiet console.old console.new }
-    ensures explained { IfOk result (λ line. IsExplained W.program (string_bytes name) bytes.now selection format
-        console.old.output console.new.output (status_of (line ∷ []))) }
-    ensures name { IfOk result (λ line. line.name ≡ string_bytes name) }
-    ensures verdict { IfOk result (λ line. IsVerdict W.program bytes.now line.verdict) }
+    ensures explained { IfOk result (IsExplained W.program (string_bytes name) bytes.now selection format
+        console.old.output console.new.output) }
 {
     explain_file::<W, Outlet<O>>(alloc, name, bytes, selection, format, &mut console.output)
 }

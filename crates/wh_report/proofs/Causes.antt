@@ -1,10 +1,10 @@
 -- The cause of bytes with a verdict.
-use Rattle.std.proofs.Common.{◌≡◌, ◌∙◌, ◌≤◌, ℕ, Bool, true, false, List, None, Some, ap, arith, length, refl, subst, sym}
+use Rattle.std.proofs.Common.{◌≡◌, ◌∙◌, ◌≤◌, ℕ, Bool, true, false, List, [], None, Some, ap, arith, length, refl, subst, sym}
 use Rattle.std.specs.Prelude.{◌≢◌, Option, Result, Ok, Err, IfErr, IfOk, IfSome, nat_lt, string_bytes}
 use Rattle.wh_events.specs.declared.event.Event.{Event}
 use Rattle.wh_events.specs.declared.memory.OutOfMemory.{OutOfMemory as OutOfRoom}
 use Rattle.wh_explain.specs.Explaining.{unknown_in}
-use Rattle.wh_fault_details.specs.Details.{has_detail}
+use Rattle.wh_fault_details.specs.Details.{detail_of, has_detail}
 use Rattle.wh_file_faults.specs.Faults.{File, IsCauseIn, IsCauseOf, IsNotJson, IsUnreadCause}
 use Rattle.wh_file_faults.specs.declared.file_faults.Cause.{Cause}
 use Rattle.wh_file_faults.proofs.Faults.{json_cause}
@@ -43,7 +43,7 @@ not_broken : {S : Type 0} (program : Program S) (bytes : List ℕ) (verdict : Ve
 unfolding verdict_on
 not_broken program bytes verdict own known other broken = other (own.exact known ∙ ap (read_and_judged program) (no_json_read bytes broken))
 
--- where there is code, or nothing is known of that, the cause is that bytes are no JSON
+-- if there is code, or nothing is known of that, the cause is that bytes are no JSON
 is_cause : {S : Type 0} (program : Program S) (bytes : List ℕ) (verdict : Verdict) (cause : Option Cause) → IsVerdict program bytes verdict
     → (verdict ≢ OutOfMemory → None ≡ unknown_in program (history bytes)) → IsUnreadCause verdict bytes cause → verdict ≢ OutOfMemory → IsCauseIn program bytes cause
 is_cause program bytes (Unreadable BadJson) cause own code h known = json_cause program bytes cause (read_as_no_json program bytes (Unreadable BadJson) own refl) h
@@ -93,8 +93,8 @@ detail_is_within program bytes (Faulty fault) own has = replayed_within program 
 detail_is_within program bytes verdict own has = absurd (cc)
 
 -- the record of a file for which there was no memory
-pub no_memory_is : {S : Type 0} (strict : Bool) (program : Program S) (file : File) (own : Record) → own.line ≡ record { name = string_bytes file.0; verdict = OutOfMemory } → own.cause ≡ None → length file.1.items ≤ longest → IsRecordOf strict program file own
-no_memory_is strict program file own line none within =
+pub no_memory_is : {S : Type 0} (strict : Bool) (program : Program S) (file : File) (own : Record) → own.line ≡ record { name = string_bytes file.0; verdict = OutOfMemory } → own.cause ≡ None → own.detail ≡ None → own.warnings ≡ [] → length file.1.items ≤ longest → IsRecordOf strict program file own
+no_memory_is strict program file own line none undetailed unwarned within =
     let ends : own.line.verdict ≡ OutOfMemory = ap (λ l. l.verdict) line in
     record {
       line = record {
@@ -107,7 +107,8 @@ no_memory_is strict program file own line none within =
       };
       known = subst (λ cause. IfSome cause (IsCauseOf program file.1.items)) (sym none) tt;
       cause = λ known. absurd (known ends);
-      detail = λ known. absurd (known ends);
+      detail = undetailed ∙ ap (λ verdict. detail_of verdict file.1.items) (sym ends);
       difference = λ known. absurd (known ends);
       warnings = λ known. absurd (known ends);
+      unwarned = λ _. unwarned;
     }

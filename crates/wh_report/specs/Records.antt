@@ -12,21 +12,24 @@ use Rattle.wh_values.specs.Checked.{AreOtherValues}
 use Rattle.wh_values.specs.declared.comparing.OtherValue.{OtherValue}
 use Rattle.wh_report.specs.declared.records.Record.{Record}
 
--- the warnings of a file with this verdict: where values are strict, those that differ, and else none
-abbrev pub AreWarnings : {S : Type 0} → (strict : Bool) → Program S → (bytes : List ℕ) → Verdict → List OtherValue → Type 0
+-- the warnings of a file with this verdict: if values are strict, those that differ, and else none
+abbrev pub AreWarnings : {S : Type 0} → (strict : Bool) → Program S → (bytes : List ℕ) → Verdict → List OtherValue
+    → Type 0
 AreWarnings true program bytes verdict warnings = AreOtherValues program bytes verdict warnings
 AreWarnings false program bytes verdict warnings = warnings ≡ []
 
--- the record of a file: its line, its cause, if it has one, what its fault leaves out, the difference that its replay
--- stops at, if there is one, and its warnings; where memory ran out nothing is known of the rest but that a cause is one
+-- the record of a file: its line, its cause, if it has one, what its fault omits, the difference that its replay
+-- stops at, if there is one, and its warnings; if memory ran out there are no warnings, and nothing is known of a cause
+-- but that it is one
 pub record IsRecordOf {S : Type 0} (strict : Bool) (program : Program S) (file : File) (own : Record) : Type 0 where
   pub line : IsLineOf program file own.line
   pub known : IfSome own.cause (IsCauseOf program file.1.items)
   pub cause : own.line.verdict ≢ OutOfMemory → IsCauseIn program file.1.items own.cause
-  pub detail : own.line.verdict ≢ OutOfMemory → own.detail ≡ detail_of own.line.verdict file.1.items
+  pub detail : own.detail ≡ detail_of own.line.verdict file.1.items
   pub difference : own.line.verdict ≢ OutOfMemory → IsDifferenceIn program file.1.items own.difference
   pub warnings : own.line.verdict ≢ OutOfMemory
       → AreWarnings strict program file.1.items own.line.verdict own.warnings
+  pub unwarned : own.line.verdict ≡ OutOfMemory → own.warnings ≡ []
 
 -- the record of an input, which was read as a file
 pub record IsRecordOfInput {S T : Type 0} (strict : Bool) (program : Program S) (Reads : T → File → Type 0) (input : T)

@@ -26,7 +26,7 @@ cause_members (Some (NoCode kind)) = text_member (codes "workflowType") (shown k
 abbrev pub object_after : OtherValue → List ℕ
 object_after value = codes "," ++ value_object value
 
--- the member of warnings: `"warnings":[WARNING,..]`, where there are any
+-- the member of warnings: `"warnings":[WARNING,..]`, if there are any
 abbrev pub warning_members : List OtherValue → List (List ℕ)
 warning_members [] = []
 warning_members (first ∷ others) =
@@ -51,7 +51,7 @@ abbrev pub report_as : Format → List Record → List ℕ
 report_as Json records = flat_map json_record records ++ json_totals (lines_of records)
 report_as Text records = report (lines_of records)
 
--- 0 where each file is good, and else 1
+-- 0 if each file is good, and else 1
 abbrev pub status_of : List Line → ℕ
 status_of lines = if all_good lines then 0 else 1
 
@@ -60,7 +60,7 @@ abbrev pub some_value : List OtherValue → Bool
 some_value [] = false
 some_value (first ∷ others) = true
 
--- 1 where a file is not good, and else 3 where values of one differ, and 0 where none do
+-- 1 if a file is not good, and else 3 if values of one differ, and 0 if none do
 abbrev pub records_status : List Record → ℕ
 records_status records =
     if all_good (lines_of records) then (if list_any (λ own. some_value own.warnings) records then 3 else 0) else 1

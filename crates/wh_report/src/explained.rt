@@ -1,11 +1,9 @@
 //! The explanation of one file.
 
-ghost use Rattle.std.specs.Prelude.{◌≡◌, ◌≢◌, ◌∷◌, [], Err, IfErr, IfOk, OnOk, string_bytes};
+ghost use Rattle.std.specs.Prelude.{◌≡◌, ◌≢◌, Err, IfErr, IfOk, OnOk, string_bytes};
 ghost use Rattle.std.specs.Io.KnownBytes.{Appends};
 ghost use Rattle.wh_report.specs.Commands.{IsExplained, IsViewedIf, explained_as, explanation_as};
 ghost use Rattle.wh_report.specs.Commands.{view_as, viewed_as};
-ghost use Rattle.wh_report.specs.Reports.{status_of};
-ghost use Rattle.wh_tester.specs.Verdicts.{IsVerdict};
 
 use std::alloc::Global;
 use std::io;
@@ -52,7 +50,7 @@ pub fn write_view_as<O: Write>(
     }
 }
 
-/// What is recorded in a file, where there is no code for its workflow type.
+/// What is recorded in a file, if its workflow type is not registered.
 fn viewed(alloc: Global, unknown: &Option<Text>, bytes: &[u8]) -> Result<Option<View>, CommandFault>
     ensures viewed { IfOk result (IsViewedIf unknown.now bytes.now) }
     ensures memory { IfErr result (λ fault. fault ≡ CommandFault.OutOfMemory) }
@@ -117,11 +115,11 @@ fn write_explained<O: Write>(
     Ok(line)
 }
 
-/// Writes the explanation of a history file, of the tasks that are selected, or where nothing is of
-/// those that matter, as `wh_explain_report` does. Where there is no code for its workflow type, what
+/// Writes the explanation of a history file, of the tasks that are selected, or if nothing is of
+/// those that matter, as `wh_explain_report` does. If there is no code for its workflow type, what
 /// is recorded in it follows, as `wh_view_report` writes it, of the tasks that are selected, or of
 /// all. The answer is the line of the file in the report of replay. The history is replayed once.
-/// Nothing is written where the answer is `OutOfMemory`.
+/// Nothing is written if the answer is `OutOfMemory`.
 pub fn explain_file<W: Workflow, O: Write>(
     alloc: Global,
     name: String,
@@ -130,10 +128,8 @@ pub fn explain_file<W: Workflow, O: Write>(
     format: Format,
     writer: &mut O,
 ) -> Result<Line, CommandFault>
-    ensures explained { IfOk result (λ line. IsExplained W.program (string_bytes name) bytes.now selection format
-        (O.contents writer.old) (O.contents writer.new) (status_of (line ∷ []))) }
-    ensures name { IfOk result (λ line. line.name ≡ string_bytes name) }
-    ensures verdict { IfOk result (λ line. IsVerdict W.program bytes.now line.verdict) }
+    ensures explained { IfOk result (IsExplained W.program (string_bytes name) bytes.now selection format
+        (O.contents writer.old) (O.contents writer.new)) }
     ensures unwritten { result ≡ Err CommandFault.OutOfMemory → writer.new ≡ writer.old }
 {
     let Ok(explanation) = explain::<W>(alloc, name, bytes) else {

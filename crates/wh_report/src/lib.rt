@@ -1,5 +1,5 @@
-//! Reports on history files: each file is parsed once and its history is replayed once, and the record
-//! of what came of it is written as text or as JSON; or the tasks of one file are explained.
+//! Reports on history files: each file is parsed once and its history is replayed once, and the
+//! record of what came of it is written as text or as JSON; or the tasks of one file are explained.
 #![tactic(auto)]
 
 mod commands;

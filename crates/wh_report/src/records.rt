@@ -1,6 +1,6 @@
 //! The record of a file: what came of it.
 
-ghost use Rattle.std.specs.Prelude.{◌≡◌, ◌≢◌, ◌≤◌, Err, IfErr, IfOk, IfSome, MatchResult, None, Ok, Some, length};
+ghost use Rattle.std.specs.Prelude.{◌≡◌, ◌≢◌, ◌≤◌, Err, IfErr, IfOk, IfSome, MatchResult, None, Ok, Some, [], length};
 ghost use Rattle.wh_fault_details.specs.Details.{detail_of};
 ghost use Rattle.wh_file_faults.specs.Faults.{IsCauseIn, IsCauseOf};
 ghost use Rattle.wh_file_faults.specs.Made.{IsFaultIn};
@@ -27,19 +27,19 @@ use wh_workflow::Workflow;
 pub struct Record {
     /// Its name, and the verdict on its bytes.
     pub line: Line,
-    /// Where it is no JSON, or the workflow type that there is no code for.
+    /// Where it is no JSON, or its workflow type, if that is not registered.
     pub cause: Option<Cause>,
-    /// What its fault leaves out: the field that an event lacks, or what one that is not in place
+    /// What its fault omits: the field that an event lacks, or what one that is not in place
     /// contradicts.
     pub detail: Option<FaultDetail>,
-    /// What is sent and what is recorded, where the replay stops since they differ.
+    /// What is sent and what is recorded, if the replay stops since they differ.
     pub difference: Option<Pairing>,
-    /// The values that differ from what is recorded, where these are asked for and the file is good.
+    /// The values that differ from what is recorded, if these are asked for and the file is good.
     pub warnings: Items<OtherValue>,
 }
 
-/// Why a file with this verdict and these bytes is named beside the report: there is no code for a
-/// workflow type, or it is no JSON. `OutOfMemory` where there was no memory to see where it is none.
+/// Why a file with this verdict and these bytes is named beside the report: its workflow type is
+/// not registered, or it is no JSON. `OutOfMemory` if there was no memory to see where it is none.
 #[tactic(auto, using(crate::proofs::Causes::unread_is_cause, crate::proofs::Causes::unread_is_known))]
 fn cause_of<W: Workflow>(
     alloc: Global,
@@ -60,8 +60,8 @@ fn cause_of<W: Workflow>(
     }
 }
 
-/// Why a file with this verdict and these bytes is named beside the report, and what its fault leaves
-/// out. `OutOfMemory` where there was no memory to read the bytes once more for that.
+/// Why a file with this verdict and these bytes is named beside the report, and what its fault
+/// omits. `OutOfMemory` if there was no memory to read the bytes once more for that.
 fn notes_of<W: Workflow>(
     alloc: Global,
     unknown: Option<Text>,
@@ -87,7 +87,7 @@ fn notes_of<W: Workflow>(
     }
 }
 
-/// What the replay of a file finds, and its warnings: where values are strict, those that differ from
+/// What the replay of a file finds, and its warnings: if values are strict, those that differ from
 /// what is recorded, and else none. It is parsed once and its history is replayed once.
 fn found_in<W: Workflow>(alloc: Global, strict: bool, bytes: &[u8]) -> (Finding, Vec<OtherValue>)
     ensures verdict { IsVerdict W.program bytes.now result.0.verdict }
@@ -98,6 +98,7 @@ fn found_in<W: Workflow>(alloc: Global, strict: bool, bytes: &[u8]) -> (Finding,
         → IsDifferenceIn W.program bytes.now result.0.difference }
     ensures warnings { result.0.verdict ≢ Verdict.OutOfMemory
         → AreWarnings strict W.program bytes.now result.0.verdict result.1.items }
+    ensures none { result.0.verdict ≡ Verdict.OutOfMemory → result.1.items ≡ [] }
 {
     if strict {
         check_values::<W>(alloc, bytes)
@@ -110,6 +111,8 @@ fn found_in<W: Workflow>(alloc: Global, strict: bool, bytes: &[u8]) -> (Finding,
 fn no_memory(alloc: Global, name: Text) -> Record
     ensures line { result.line ≡ record { name = name; verdict = Verdict.OutOfMemory } }
     ensures cause { result.cause ≡ None }
+    ensures detail { result.detail ≡ None }
+    ensures warnings { result.warnings ≡ [] }
 {
     Record {
         line: Line {
@@ -123,8 +126,8 @@ fn no_memory(alloc: Global, name: Text) -> Record
     }
 }
 
-/// The record of a file, whose bytes are kept no longer, with warnings where values are strict. Its
-/// verdict is `OutOfMemory` also where there was no memory to read the bytes once more for what
+/// The record of a file, whose bytes are kept no longer, with warnings if values are strict. Its
+/// verdict is `OutOfMemory` also if there was no memory to read the bytes once more for what
 /// stands beside a fault.
 #[tactic(auto, using(crate::proofs::Causes::no_memory_is))]
 pub fn record_of<W: Workflow>(alloc: Global, strict: bool, file: (String, Vec<u8>)) -> Record
@@ -152,12 +155,12 @@ pub fn record_of<W: Workflow>(alloc: Global, strict: bool, file: (String, Vec<u8
 }
 
 /// Replays inputs with the code of `W`, and gives their records in their order, whichever is done
-/// first, with warnings where values are strict. `read` gives the name and the bytes of an input.
+/// first, with warnings if values are strict. `read` gives the name and the bytes of an input.
 /// Each is read in the thread that replays it: so the bytes of no more files are there at once than
 /// there are threads. `rayon` spreads the inputs over threads, down to one each.
 ///
 /// Out of memory within a file's replay is that file's verdict. The fault is that of an input that
-/// can't be read, as `read` gives it, or `InputFault::OutOfMemory` where there is no memory for the
+/// can't be read, as `read` gives it, or `InputFault::OutOfMemory` if there is no memory for the
 /// list.
 pub fn check_all<
     W: Workflow + Send,

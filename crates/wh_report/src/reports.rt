@@ -84,8 +84,8 @@ fn have_warnings(records: &[Record]) -> bool
     records.iter().any(|own| has_warnings(own))
 }
 
-/// The status of a report: 1 where a file is not good, and else 3 where values of one differ, and 0
-/// where none do.
+/// The status of a report: 1 if a file is not good, and else 3 if values of one differ, and 0
+/// if none do.
 #[tactic(auto, using(crate::proofs::Lines::all_of_map))]
 pub fn status_of(records: &[Record]) -> u8
     ensures { result ≡ records_status records.now }
@@ -146,8 +146,8 @@ fn write_first<O: Write>(first: &OtherValue, writer: &mut O) -> io::Result<()>
 
 /// Writes the member of the values that differ, the first of them and the others.
 fn write_some<O: Write>(first: &OtherValue, others: &[OtherValue], writer: &mut O) -> io::Result<()>
-    ensures { OnOk result
-        (Appends (O.contents writer.old) (O.contents writer.new) (following (warning_members (first.now ∷ others.now)))) }
+    ensures { let text = following (warning_members (first.now ∷ others.now)) in
+        OnOk result (Appends (O.contents writer.old) (O.contents writer.new) text) }
 {
     write_first(first, writer)?;
     write_after(others, writer)?;
@@ -187,8 +187,8 @@ fn write_members<O: Write>(own: &Record, writer: &mut O) -> io::Result<()>
     write_warnings(own.warnings.get(), writer)
 }
 
-/// Writes the object of a file, as the report as JSON has it. After an error some of it may have been
-/// written.
+/// Writes the object of a file, as the report as JSON has it. After an error some of it may have
+/// been written.
 #[tactic(auto, using(crate::proofs::Lines::object_written))]
 pub fn write_json_record<O: Write>(own: &Record, writer: &mut O) -> io::Result<()>
     ensures { OnOk result (Appends (O.contents writer.old) (O.contents writer.new) (json_record own.now)) }
@@ -210,12 +210,13 @@ fn write_objects<O: Write>(records: &[Record], writer: &mut O) -> io::Result<()>
 
 /// Writes the report of records: a line for each file, in their order, and then a line with the
 /// number of files and of good ones. As JSON (RFC 8259) each is an object, that of a file as
-/// `wh_tester::write_json_line` writes it, and that of the totals with `files` and `ok`. The object of
-/// a file has after the text of its fault: `line` and `column`, where it is no JSON; `workflowType`,
-/// where there is no code for that; what its fault leaves out, as `wh_fault_details::DetailMembers`
-/// writes it; what is sent and what is recorded, where they differ; and `warnings`, the list of its
-/// values that differ, each with `event`, `kind`, `sent` and `recorded`, where there are some. Each
-/// line goes to the writer as it is made. After an error some of the report may have been written.
+/// `wh_tester::write_json_line` writes it, and that of the totals with `files` and `ok`. The object
+/// of a file has after the text of its fault: `line` and `column`, if it is no JSON;
+/// `workflowType`, if that is not registered; what its fault omits, as
+/// `wh_fault_details::DetailMembers` writes it; what is sent and what is recorded, if they differ;
+/// and `warnings`, the list of its values that differ, each with `event`, `kind`, `sent` and
+/// `recorded`, if there are some. Each line goes to the writer as it is made. After an error some
+/// of the report may have been written.
 pub fn write_report<O: Write>(records: &[Record], format: Format, writer: &mut O) -> io::Result<()>
     ensures { OnOk result (Appends (O.contents writer.old) (O.contents writer.new) (report_as format records.now)) }
 {
@@ -233,8 +234,8 @@ pub fn write_report<O: Write>(records: &[Record], format: Format, writer: &mut O
     }
 }
 
-/// Writes the report of records, and gives its status: 1 where a file is not good, and else 3 where
-/// values of one differ, and 0 where none do.
+/// Writes the report of records, and gives its status: 1 if a file is not good, and else 3 if
+/// values of one differ, and 0 if none do.
 pub fn report<O: Write>(
     records: &[Record],
     format: Format,
