@@ -5,12 +5,12 @@ use Rattle.std.proofs.lemmas.Bool.{leb-false, leb-true, le-leb}
 use Rattle.wh_command_line.specs.declared.work.WorkOptions.{WorkOptions}
 use Rattle.wh_work.specs.Plans.{keeps_runs, RunsAreKeptBesideAStickyQueue, StickyQueueKeepsRuns, TwoKeepWhatIsAskedFor}
 
--- where a number is left, the test held
+-- if a number is left, the test held
 held : (b : Bool) (n : ℕ) → 0 < (if b then n else 0) → b ≡ true
 held true n h = refl
 held false n h = absurd (omega (arith, h))
 
--- so it did where there is a value
+-- so it did if there is a value
 held_where_some : (b : Bool) (n : ℕ) → IsSome (if b then Some n else None) → b ≡ true
 held_where_some true n h = refl
 held_where_some false n h = h

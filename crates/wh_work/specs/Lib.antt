@@ -3,3 +3,4 @@ pub mod Policies
 pub mod Reports
 pub mod Times
 pub mod Progress
+pub mod Calls

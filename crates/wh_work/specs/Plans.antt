@@ -13,7 +13,7 @@ use Rattle.wh_work.specs.declared.plan.LivePlan.{LivePlan}
 abbrev pub keeps_runs : WorkOptions → Bool
 keeps_runs options = leb 1 options.cache && leb 2 options.workers
 
--- the sizes of the host: a seat for each worker, and a cache where runs are kept
+-- the sizes of the host: a seat for each worker, and a cache if runs are kept
 abbrev pub live_config : WorkOptions → Config
 live_config options = config_of (options.workers + options.activity_workers)
     (if keeps_runs options then options.cache else 0) options.cache_events options.slots
@@ -44,7 +44,7 @@ pub record IsLivePlan (options : WorkOptions) (plan : LivePlan) : Type 0 where
 abbrev pub LivesBy : Type 1
 LivesBy = LivePlan → LiveEnd → Type 0
 
--- what is left where a call that serves live tasks gives it
+-- what is left if a call that serves live tasks gives it
 abbrev pub lives : {E : Type 0} → (LivePlan → Result LiveEnd E → Type 0) → LivesBy
 lives gives plan end = gives plan (Ok end)
 
@@ -52,14 +52,14 @@ lives gives plan end = gives plan (Ok end)
 abbrev pub MayServe : (LivePlan → Type 0) → Type 0
 MayServe may = (plan : LivePlan) → IsConfig plan.config → may plan
 
--- a host keeps runs only where their tasks come by a sticky queue, and a worker is there beside the one that polls the
+-- a host keeps runs only if their tasks come by a sticky queue, and a worker is there beside the one that polls the
 -- queue of all workers; it keeps as many as it is asked to
 abbrev pub RunsAreKeptBesideAStickyQueue : Type 0
 RunsAreKeptBesideAStickyQueue =
     (options : WorkOptions) → 0 < (live_config options).cache
     → (2 ≤ options.workers) × IsSome (sticky_of options) × ((live_config options).cache ≡ options.cache)
 
--- where there is a sticky queue, runs are kept
+-- if there is a sticky queue, runs are kept
 abbrev pub StickyQueueKeepsRuns : Type 0
 StickyQueueKeepsRuns = (options : WorkOptions) → IsSome (sticky_of options) → 0 < (live_config options).cache
 

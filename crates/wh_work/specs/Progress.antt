@@ -1,4 +1,4 @@
--- What is counted of the turns and the calls of workers, and what is told of it.
+-- What is counted of the turns and the calls of workers, and what is reported of it.
 use Rattle.std.specs.Prelude.{ℕ, ◌==◌, length, ◌*◌, ◌/◌, ◌-◌, ◌^◌, min, max, Bool, true, false, ◌&&◌, ◌||◌, not, nat_eq, bytes_eq, Option, Some, None, Result, Ok, Err, List, ◌++◌, codes}
 use Rattle.std.specs.List.{starts_with}
 use Rattle.serde_json.specs.Data.{Data}
@@ -60,10 +60,11 @@ with_turn _ metrics = metrics
 
 -- a poll more, with a task or without one
 abbrev pub with_poll : Bool → Metrics → Metrics
-with_poll true metrics = record metrics { polls = together metrics.polls 1; empty_polls = together metrics.empty_polls 1 }
+with_poll true metrics =
+    record metrics { polls = together metrics.polls 1; empty_polls = together metrics.empty_polls 1 }
 with_poll false metrics = record metrics { polls = together metrics.polls 1 }
 
--- the token of the task that a result or a request names, empty where there is none
+-- the token of the task that a result or a request names, empty if there is none
 abbrev pub token_of : Data → List ℕ
 token_of named = text_of (field (codes "taskToken") (Some named))
 
@@ -71,7 +72,7 @@ token_of named = text_of (field (codes "taskToken") (Some named))
 abbrev pub has_no_task : Data → Bool
 has_no_task result = length (token_of result) == 0
 
--- an answer more of which this became
+-- an answer more, which became this
 abbrev pub with_receipt : Receipt → Metrics → Metrics
 with_receipt receipt.NotFound metrics = record metrics { not_found = together metrics.not_found 1 }
 with_receipt receipt.Invalid metrics = record metrics { refused = together metrics.refused 1 }
@@ -120,7 +121,7 @@ held_of counts = record {
   activity = slots_of counts.activity;
 }
 
--- what is counted, with what the host counts and holds, where it gives that
+-- what is counted, with what the host counts and holds, if it gives that
 abbrev pub metrics_now : Metrics → Option Counts → Metrics
 metrics_now metrics None = metrics
 metrics_now metrics (Some counts) =
@@ -139,7 +140,8 @@ abbrev pub line_as : Format → Metrics → (rate : ℕ) → List ℕ
 line_as formats.Text metrics rate = counts_text metrics rate
 line_as formats.Json metrics rate = json_text metrics rate
 
--- what was counted in all: the totals of the host, what the sources counted, which runs were cached, and how long tasks took
+-- what was counted in all: the totals of the host, what the sources counted, which runs were cached, and how long tasks
+-- took
 abbrev pub end_metrics : Metrics → LiveEnd → Metrics
 end_metrics metrics end = record {
   completed = end.totals.completed;

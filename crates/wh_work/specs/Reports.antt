@@ -49,6 +49,6 @@ live_as formats.Json end = json_live_text end
 abbrev pub report_text : LiveReport → (name : List ℕ) → List ℕ
 report_text report name = live_as report.format report.end
 
--- 0 where no call of a source failed while its connection was open, and else 1
+-- 0 if no call of a source failed while its connection was open, and else 1
 abbrev pub live_status : LiveEnd → ℕ
 live_status end = if eqb end.tally.faults 0 then 0 else 1

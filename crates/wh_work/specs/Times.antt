@@ -34,6 +34,6 @@ abbrev pub without : Option ℕ → List BegunTask → List BegunTask
 without None tasks = tasks
 without (Some place) tasks = remove tasks place
 
--- the tasks, but the oldest where so many are noted
+-- the tasks, but the oldest if so many are noted
 abbrev pub with_room : List BegunTask → List BegunTask
 with_room tasks = if nat_lt (length tasks) 1024 then tasks else remove tasks 0

@@ -7,7 +7,7 @@ use wh_events::OutOfMemory;
 use wh_rpc::Calls;
 
 /// Calls of live tasks that go out on a stream, for the program and for the thread that listens to
-/// their responses. `OutOfMemory` where there was no memory for them.
+/// their responses. `OutOfMemory` if there was no memory for them.
 pub fn calls_over<O: Write + Drop>(
     alloc: Global,
     out: O,

@@ -125,7 +125,7 @@ fn answers_activity_task(method: &str) -> bool
         || method == "RespondActivityTaskCanceled"
 }
 
-/// Of which kind the task is that a call of this method answers, if it answers one.
+/// The kind of the task that a call of this method answers, if it answers one.
 pub(crate) fn kind_of(method: &str) -> Option<SlotKind>
     ensures { result ≡ kind_of method.now }
 {
@@ -159,7 +159,7 @@ fn held_of(counts: Counts) -> Held
     }
 }
 
-/// What is counted now. The tasks that ended are those of the host, where it gives them.
+/// What is counted now. The tasks that ended are those of the host, if it gives them.
 pub(crate) fn metrics_now(metrics: Metrics, counts: Option<Counts>) -> Metrics
     ensures { result ≡ metrics_now metrics counts }
 {

@@ -1,5 +1,5 @@
-//! Live work: what options ask for, the workers that serve tasks over the calls of a server, and what
-//! is reported of them.
+//! Live work: what options ask for, the workers that serve tasks over the calls of a server, and
+//! what is reported of them.
 #![tactic(auto)]
 
 mod calls;

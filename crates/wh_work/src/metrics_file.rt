@@ -64,7 +64,8 @@ fn words(fault: FolderFault) -> &'static str {
     }
 }
 
-/// What can replace files whole, as a runtime with files can. It stands for `Files` where threads do so.
+/// What can replace files whole, as a runtime with files can. It stands for `Files` where threads
+/// do so.
 pub trait FileReplacer {
     /// Replaces what the file at `path` has, by way of a file at `beside`, as
     /// [`replace_file`](wh_files::replace_file). After an error it is as it was.
@@ -95,7 +96,7 @@ impl<'a> MetricsFile<'a> {
         })
     }
 
-    /// Replaces what the file has by these counts. Where it can't be written, why not.
+    /// Replaces what the file has by these counts. If it can't be written, why not.
     pub(crate) fn write<R: FileReplacer + AllocGlobal>(
         &self,
         rt: &R,

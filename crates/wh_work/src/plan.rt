@@ -114,12 +114,12 @@ fn plan_with(
     })
 }
 
-/// How options ask to serve live tasks: by a host with a seat for each worker, and with a cache where
-/// tasks of cached runs come by a sticky queue. Nothing is read but the file of the policies, if the
-/// options name one.
+/// How options ask to serve live tasks: by a host with a seat for each worker, and with a cache if
+/// tasks of cached runs come by a sticky queue. Nothing is read but the file of the policies, if
+/// the options name one.
 ///
-/// `Unread` where that file can't be read, `BadPolicies` where it is too long, no UTF-8, no TOML, or
-/// has a key that is not known or a bad value. `OutOfMemory` where there was no memory.
+/// `Unread` if that file can't be read, `BadPolicies` if it is too long, no UTF-8, no TOML, or
+/// has a key that is not known or a bad value. `OutOfMemory` if there was no memory.
 pub fn live_plan<R: Files + AllocGlobal>(
     rt: &R,
     options: WorkOptions,

@@ -99,7 +99,7 @@ fn policies_at<R: Files + AllocGlobal>(
     }
 }
 
-/// The policies that the options ask for: those of their file, if they name one. Where that does not
+/// The policies that the options ask for: those of their file, if they name one. If that does not
 /// say another thing, or there is none, an activity has a time for one attempt and a number of
 /// attempts.
 pub(crate) fn policies_of<R: Files + AllocGlobal>(

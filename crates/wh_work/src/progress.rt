@@ -22,7 +22,7 @@ use wh_poll::{Served, SourceFault};
 use wh_slots::SlotKind;
 use wh_tester::Shown;
 
-/// How long it is from one time to the next at which counts are kept, where they are not reported.
+/// How long it is from one time to the next at which counts are kept, if they are not reported.
 const KEPT_SECONDS: u64 = 10;
 
 /// What was counted of the workers' turns and calls, and what was reported last.
@@ -70,7 +70,7 @@ impl Display for ReportLine {
     }
 }
 
-/// The time in whole microseconds of a clock that never goes back, 0 where there is none.
+/// The time in whole microseconds of a clock that never goes back, 0 if there is none.
 fn microseconds<R: Clock>(rt: &R) -> u64 {
     match rt.monotonic() {
         Ok(time) => u64::try_from(time.as_micros()).unwrap_or(u64::MAX),
@@ -92,7 +92,7 @@ impl Turns {
         rate_of(since, all.saturating_sub(self.before))
     }
 
-    /// What is to be reported, with what the host counts and holds, where it gives that.
+    /// What is to be reported, with what the host counts and holds, if it gives that.
     fn report(&mut self, now: u64, counts: Option<Counts>) -> Report
         ensures metrics { result.metrics ≡ metrics_now self.old.metrics counts }
         ensures rate { result.rate ≡ rate_of (max (now - self.old.reported) 1)
@@ -108,8 +108,8 @@ impl Turns {
     }
 }
 
-/// Reports from time to time what was counted, and what the host holds, and keeps it in a file, as far
-/// as either is asked for.
+/// Reports from time to time what was counted, and what the host holds, and keeps it in a file, as
+/// far as either is asked for.
 #[derive(Drop)]
 pub(crate) struct Progress<'a, R> {
     rt: &'a R,
@@ -127,8 +127,8 @@ pub(crate) struct Progress<'a, R> {
 }
 
 impl<'a, R: Wait + Clock> Progress<'a, R> {
-    /// One that begins now, for a program of a name. It reports in a form after so many seconds each,
-    /// if it does, and keeps the counts in the file, if there is one.
+    /// One that begins now, for a program of a name. It reports in a form after so many seconds
+    /// each, if it does, and keeps the counts in the file, if there is one.
     pub(crate) fn new(
         rt: &'a R,
         alloc: Global,
@@ -160,7 +160,7 @@ impl<'a, R: Wait + Clock> Progress<'a, R> {
 }
 
 impl<R: Wait + Clock> Progress<'_, R> {
-    /// Notes that a poll has given the task of this token now. Where there is no memory to note it, it
+    /// Notes that a poll has given the task of this token now. If there is no memory to note it, it
     /// is not timed.
     pub(crate) fn begin_task(&self, alloc: Global, token: &str) {
         let since = microseconds(self.rt);
@@ -213,8 +213,8 @@ impl<R: Wait> Progress<'_, R> {
 }
 
 impl<R: Wait + Eprint + FileReplacer + AllocGlobal> Progress<'_, R> {
-    /// Keeps counts in the file, if there is one. That it can't be written is told once, until it can
-    /// be written again.
+    /// Keeps counts in the file, if there is one. That it can't be written is reported once, until
+    /// it can be written again.
     fn keep(&self, metrics: Metrics) {
         let Some(file) = &self.file else {
             return;

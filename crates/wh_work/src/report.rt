@@ -12,7 +12,7 @@ use wh_crew::LiveEnd;
 use wh_host::Totals;
 use wh_live::Tally;
 
-/// The status of `work`: 0 where no call of a source failed, and else 1.
+/// The status of `work`: 0 if no call of a source failed, and else 1.
 pub fn live_status(end: &LiveEnd) -> u8
     ensures { result ≡ live_status end.now }
 {

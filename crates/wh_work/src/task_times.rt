@@ -43,7 +43,7 @@ impl BegunTasks {
         }
     }
 
-    /// Forgets the oldest task where 1024 are noted.
+    /// Forgets the oldest task if 1024 are noted.
     fn make_room(&mut self)
         ensures { self.new.tasks.items ≡ with_room self.old.tasks.items }
     {
@@ -52,8 +52,8 @@ impl BegunTasks {
         }
     }
 
-    /// Notes a task. Where 1024 are noted, the oldest of them is forgotten, since tasks that are
-    /// never answered stay. `OutOfMemory` where there was no memory for it: it is not noted then.
+    /// Notes a task. If 1024 are noted, the oldest of them is forgotten, since tasks that are
+    /// never answered stay. `OutOfMemory` if there was no memory for it: it is not noted then.
     pub(crate) fn begin(&mut self, task: BegunTask) -> Result<(), OutOfMemory>
         ensures noted { OnOk result (self.new.tasks.items ≡ with_room self.old.tasks.items ++ task ∷ []) }
         ensures unnoted { OnErr result (self.new.tasks.items ≡ with_room self.old.tasks.items) }
@@ -65,7 +65,7 @@ impl BegunTasks {
         }
     }
 
-    /// The task of this token, which is noted no more then. `None` where no task of the token is
+    /// The task of this token, which is noted no more then. `None` if no task of the token is
     /// noted: none was given under it, it was taken before, there was no memory to note it, or 1024
     /// were noted after it.
     pub(crate) fn take(&mut self, token: &str) -> Option<BegunTask>

@@ -1,6 +1,6 @@
 //! The workers of live tasks.
 
-ghost use Rattle.std.specs.Prelude.{◌≡◌, ◌+◌, IfOk, length, vec_len};
+ghost use Rattle.std.specs.Prelude.{◌≡◌, ◌+◌, ◌||◌, IfOk, is_some, length, vec_len};
 ghost use Rattle.wh_crew.specs.Serving.{AreServed};
 ghost use Rattle.wh_host.specs.Machine.{IsConfig};
 
@@ -13,11 +13,10 @@ use std::alloc::Global;
 use std::sync::{Arc, Wait};
 use std::thread::Threads;
 use std::time::Clock;
-use wh_activities::{WithHeartbeat, HeartbeatHandler};
+use wh_activities::{HeartbeatHandler, WithHeartbeat};
 use wh_commands::WorkerNames;
-use wh_console::Format;
 use wh_crew::{LiveEnd, LiveHeartbeat, serve_live};
-use wh_events::{OutOfMemory, Text};
+use wh_events::OutOfMemory;
 use wh_heartbeat::ActivityCell;
 use wh_host::OpenFault;
 use wh_queryable::Queryable;
@@ -26,7 +25,8 @@ use wh_rpc::Caller;
 /// A handler with its heartbeat, as a live worker runs activities by.
 type LiveHandler<'a, B, R, C> = WithHeartbeat<B, LiveHeartbeat<'a, R, CountedCalls<'a, C, R>>>;
 
-/// A cell for each worker, in which its source and its heartbeat find the activity task that it runs.
+/// A cell for each worker, in which its source and its heartbeat find the activity task that it
+/// runs.
 fn cells_of(alloc: Global, seats: usize) -> Result<Vec<Arc<ActivityCell>>, OutOfMemory>
     ensures { IfOk result (λ cells. vec_len cells ≡ seats) }
 {
@@ -40,7 +40,8 @@ fn cells_of(alloc: Global, seats: usize) -> Result<Vec<Arc<ActivityCell>>, OutOf
     Ok(cells)
 }
 
-/// A handler that beats over these calls under these names, and a watch, for the worker of each cell.
+/// A handler that sends heartbeats over these calls under these names, and a watch, for the worker
+/// of each cell.
 fn crew_of<'a, R, C, B: Drop, M: Fn() -> B>(
     rt: &'a R,
     alloc: Global,
@@ -63,34 +64,48 @@ fn crew_of<'a, R, C, B: Drop, M: Fn() -> B>(
     Ok(crew)
 }
 
-/// What reports and keeps the counts, if either is asked for: in a form after so many seconds each, and
-/// in the file at the path.
+/// The file that counts are kept in, if the plan names one.
+fn metrics_file<'a>(
+    alloc: Global,
+    plan: &'a LivePlan,
+) -> Result<Option<MetricsFile<'a>>, OutOfMemory>
+    ensures { IfOk result (λ file. is_some file ≡ is_some plan.now.metrics) }
+{
+    match &plan.metrics {
+        Some(path) => {
+            let file = MetricsFile::new(alloc, path.get(), &plan.options.names)?;
+            Ok(Some(file))
+        }
+        None => Ok(None),
+    }
+}
+
+/// What reports and keeps the counts, if the plan asks for either.
 fn progress_of<'a, R: Wait + Clock>(
     rt: &'a R,
     alloc: Global,
     name: &'a str,
-    stats: Option<u64>,
-    format: Format,
-    path: &'a Option<Text>,
-    names: &'a WorkerNames,
-) -> Result<Option<Progress<'a, R>>, OutOfMemory> {
-    let file = match path {
-        Some(path) => Some(MetricsFile::new(alloc, path.get(), names)?),
-        None => None,
-    };
-    if stats.is_none() && file.is_none() {
+    plan: &'a LivePlan,
+) -> Result<Option<Progress<'a, R>>, OutOfMemory>
+    ensures { IfOk result (λ progress.
+        is_some progress ≡ (is_some plan.now.stats || is_some plan.now.metrics)) }
+{
+    let file = metrics_file(alloc, plan)?;
+    if plan.stats.is_none() && file.is_none() {
         return Ok(None);
     }
-    Ok(Some(Progress::new(rt, alloc, name, stats, format, file)))
+    let progress = Progress::new(rt, alloc, name, plan.stats, plan.format, file);
+    Ok(Some(progress))
 }
 
 /// Starts to read what the bridge writes, by `listen`, which says whether it could, and serves the
 /// tasks that come by the calls until there are no more: by a host of the sizes of the plan, with a
-/// handler for each worker, which `make` makes, and which beats over the same calls for the activity
-/// task that its worker runs. Lines on the standard error begin with the program's name. Counts are
-/// reported and kept as the plan says; where they can't be kept, that is reported, and the work goes on.
+/// handler for each worker, which `make` makes, and which sends heartbeats over the same calls for
+/// the activity task that its worker runs. Lines on the standard error begin with the program's
+/// name. Counts are reported and kept as the plan says; if they can't be kept, that is reported,
+/// and the work goes on.
 ///
-/// `OutOfMemory` where there was no memory to begin with, or `listen` could not; no call is made then.
+/// `OutOfMemory` if there was no memory to begin with, or `listen` could not; no call is made then.
 pub fn serve_calls<
     W: Queryable + Send,
     R: Threads + Wait + Clock + Eprint + FileReplacer + AllocGlobal + Sync,
@@ -115,20 +130,13 @@ where
     ensures balanced { IfOk result (λ end.
         end.totals.taken ≡ end.totals.completed + end.totals.failed + end.totals.in_hand) }
 {
-    let LivePlan {
-        config,
-        options,
-        workers,
-        stats,
-        format,
-        metrics,
-    } = plan;
     let alloc = calls.allocator();
-    let progress = progress_of(rt, alloc, name, stats, format, &metrics, &options.names)?;
+    let progress = progress_of(rt, alloc, name, &plan)?;
     let progress = progress.as_ref();
     let calls = CountedCalls { calls, progress };
-    let cells = cells_of(alloc, config.seats)?;
-    let crew = crew_of(rt, alloc, &calls, &options.names, make, cells.as_slice())?;
+    let cells = cells_of(alloc, plan.config.seats)?;
+    let names = &plan.options.names;
+    let crew = crew_of(rt, alloc, &calls, names, make, cells.as_slice())?;
     if let Some(progress) = progress {
         progress.begin();
     }
@@ -139,10 +147,10 @@ where
         rt,
         alloc,
         name,
-        config,
+        plan.config,
         &calls,
-        &options,
-        workers as usize,
+        &plan.options,
+        plan.workers as usize,
         crew,
         cells.as_slice(),
         progress,
