@@ -1,4 +1,4 @@
--- What is reported where there is no full report.
+-- What is reported if there is no full report.
 use Rattle.std.proofs.Common.{◌≡◌, [], sym, subst}
 use Rattle.std.specs.Prelude.{Bool, true, false, if◌then◌else◌}
 use Rattle.wh_diagnostics.specs.declared.failures.Failure.{Failure}
@@ -7,7 +7,7 @@ use Rattle.wh_diagnostics.specs.Diagnostics.{failed_text}
 use Rattle.wh_console.specs.Consoles.{ConsoleView, Reported}
 use Rattle.wh_console.proofs.Printing.{nothing_reported}
 
--- nothing is reported where nobody reads on
+-- nothing is reported on a closed pipe
 pub nothing_said : (console : ConsoleView) (failure : Failure) (closed : Bool)
     → is_unread failure closed ≡ true → Reported console console (end_text failure closed)
 nothing_said console failure closed is =

@@ -1,7 +1,7 @@
 //! Each plan, and the command that carries it out.
 
 ghost use Rattle.std.specs.Prelude.{IfOk};
-ghost use Rattle.wh_cli.specs.Private.Commands.{HasWorked, Obeys};
+ghost use Rattle.wh_cli.specs.Private.Commands.{HasWorked, IsReplay, IsReplayed, Obeys};
 ghost use Rattle.wh_command_line.specs.Options.{IsWithinLimits, IsWithinWorkLimits};
 ghost use Rattle.wh_work.specs.Plans.{MayServe, lives};
 
@@ -21,7 +21,7 @@ use wh_service_command::serve_folder;
 use wh_table_commands::{check_paths, picture_path, try_path};
 use wh_work::{LivePlan, LiveReport, PlanFault, live_plan, live_status};
 
-/// Why there is no plan to serve live tasks.
+/// Returns why there is no full report, from why there is no plan to serve live tasks.
 fn failure_of(fault: PlanFault) -> Failure {
     match fault {
         PlanFault::Unread { fault } => Failure::from(fault),
@@ -62,8 +62,45 @@ where
     Ok(status)
 }
 
-/// Does what is asked for, and gives the status. `types` are the workflow types that there is code
-/// for. Where there is none, why.
+/// Replays the files that a plan of `replay` names. `types` are the registered workflow types.
+fn replay<W: Queryable + Send, R: Runtime + AllocGlobal + Threads + Sync, O: Write, E: Write>(
+    rt: &R,
+    types: &str,
+    plan: Plan,
+    console: &mut Console<'_, O, E>,
+) -> Result<u8, Failure>
+where
+    R::File: Send,
+    R::Dir: Send,
+    requires { IsReplay plan }
+    ensures { IfOk result (IsReplayed W.program types.now plan console.old console.new) }
+{
+    let Plan::Replay {
+        dir,
+        more,
+        format,
+        require_files,
+        strict_values,
+        progress,
+    } = plan
+    else {
+        unreachable!()
+    };
+    replay_paths::<W, R, O, E>(
+        rt,
+        dir,
+        more,
+        format,
+        require_files,
+        strict_values,
+        progress,
+        types,
+        console,
+    )
+}
+
+/// Does what is asked for, and returns the status, or why there is none. `types` are the registered
+/// workflow types.
 pub(crate) fn obey<
     W: Queryable + Send,
     R: Runtime + AllocGlobal + Threads + Wait + Sync,
@@ -80,24 +117,7 @@ where
     ensures { IfOk result (Obeys W.program W.queries (lives (F.post live)) types.now plan console.old console.new) }
 {
     match plan {
-        Plan::Replay {
-            dir,
-            more,
-            format,
-            require_files,
-            strict_values,
-            progress,
-        } => replay_paths::<W, R, O, E>(
-            rt,
-            dir,
-            more,
-            format,
-            require_files,
-            strict_values,
-            progress,
-            types,
-            console,
-        ),
+        Plan::Replay { .. } => replay::<W, R, O, E>(rt, types, plan, console),
         Plan::Explain {
             file,
             selection,

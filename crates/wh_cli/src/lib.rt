@@ -1,5 +1,5 @@
-//! The program but its `main`, for any workflows: it does what its command line asks for. A command of
-//! files or of a folder stands in a crate of its own; live work begins here.
+//! The program but its `main`, for any workflows: it does what its command line asks for. A command
+//! of files or of a folder stands in a crate of its own; live work begins here.
 #![tactic(auto)]
 
 mod commands;

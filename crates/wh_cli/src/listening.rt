@@ -1,4 +1,4 @@
-//! What the other end of live tasks writes.
+//! What the bridge of live tasks writes.
 
 use crate::program::{UNCALLED, called, words};
 use std::alloc::Global;
@@ -7,11 +7,11 @@ use std::sync::Wait;
 use wh_rpc::Caller;
 
 /// Reads the standard input, until it ends, and gives each response to the call that waits for it.
-/// Once the input has ended, or where it can't be read, all calls are closed. Lines that are passed
-/// over are told on the standard error, under the name by which the program was called.
+/// Once the input has ended, or if it can't be read, all calls are closed. Malformed lines are
+/// skipped, and reported on the standard error under the name that the program was called by.
 ///
-/// It stands in a thread beside `run`, which needs the responses to its last calls too. A program
-/// that is to end while its input is open lets that thread go: it does not join it.
+/// It runs in a thread beside `run`, which needs the responses to its last calls too. A program
+/// that is to end while its input is open does not join that thread.
 pub fn read_input<R: Env + AllocGlobal + Wait + Input + Eprint, C: Caller>(
     rt: &R,
     alloc: Global,

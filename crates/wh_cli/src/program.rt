@@ -1,9 +1,10 @@
 //! The program: it does what its command line asks for, and ends with a status.
 
-ghost use Rattle.std.specs.Prelude.{◌≡◌, ◌≢◌, Err, IfOk, map, string_bytes};
+ghost use Rattle.std.specs.Prelude.{◌≡◌, ◌≢◌, ◌≤◌, Err, IfOk, map, string_bytes};
+ghost use Rattle.std.specs.Process.{exit_status};
 ghost use Rattle.wh_command_line.specs.Options.{IsWithinLimits};
 ghost use Rattle.wh_command_line.specs.Plans.{HasFewSlots, IsAskedBy};
-ghost use Rattle.wh_cli.specs.Private.Commands.{Answers, HasFailed, called, is_unread, name_of};
+ghost use Rattle.wh_cli.specs.Private.Commands.{Answers, AskForNothing, HasFailed, called, is_unread, name_of};
 ghost use Rattle.wh_work.specs.Plans.{MayServe, lives};
 ghost use Rattle.wh_host.specs.Machine.{IsConfig};
 
@@ -31,7 +32,7 @@ use wh_work::{FileReplacer, LivePlan, serve_calls};
 /// The status of a run that ends without a full report.
 const FAILED: u8 = 2;
 
-/// What the program is called where no word says it.
+/// What the program is called if the command line has no word.
 pub(crate) const UNCALLED: &str = "wfhost";
 
 /// The words of the command line, the program's name first.
@@ -50,7 +51,7 @@ pub(crate) fn words<R: Env + AllocGlobal>(rt: &R) -> Result<Vec<String>, Failure
     }
 }
 
-/// What a program at a path is called: the last part of the path, or `wfhost` where there is none.
+/// What a program at a path is called: the last part of the path, or `wfhost` if there is none.
 fn name_of(path: &str) -> &str
     ensures { result.now ≡ name_of path.now }
 {
@@ -60,7 +61,7 @@ fn name_of(path: &str) -> &str
     }
 }
 
-/// What the program is called: the last part of its first word, or `wfhost` where there is none.
+/// What the program is called: the last part of its first word, or `wfhost` if there is none.
 pub(crate) fn called(words: &[String]) -> &str
     ensures { result.now ≡ called (map string_bytes words.now) }
 {
@@ -92,8 +93,7 @@ fn output<R: Print + AllocGlobal>(rt: &R) -> Result<BufWriter<Printer<'_, R>>, F
     }
 }
 
-/// Whether nobody reads on: nothing can be written, and the standard output was closed by the one
-/// who read it.
+/// Whether the standard output is a closed pipe: it can't be written, since its reader closed it.
 fn is_unread(failure: &Failure, closed: bool) -> bool
     ensures { result ≡ is_unread failure.now closed }
 {
@@ -103,7 +103,8 @@ fn is_unread(failure: &Failure, closed: bool) -> bool
     }
 }
 
-/// Tells why there is no full report, unless nobody reads on, and gives the status.
+/// Reports why there is no full report, unless the standard output is a closed pipe, and returns
+/// the status.
 fn fail<O: Write, E: Write>(failure: Failure, console: &mut Console<'_, O, E>) -> u8
     ensures { HasFailed console.new result }
 {
@@ -116,7 +117,7 @@ fn fail<O: Write, E: Write>(failure: Failure, console: &mut Console<'_, O, E>) -
 }
 
 /// Does what the words of the command line ask for, or reports why there is no full report, and
-/// gives the status.
+/// returns the status.
 fn answer<
     W: Queryable + Send,
     R: Runtime + AllocGlobal + Threads + Wait + Sync,
@@ -141,13 +142,16 @@ where
     }
 }
 
-/// Tells why there is nothing to do, under a name of the program, and gives the status.
-fn fail_under<R: Eprint>(rt: &R, name: &str, failure: Failure) -> u8 {
+/// Reports why there is nothing to do, under a name of the program, and returns the status.
+fn fail_under<R: Eprint>(rt: &R, name: &str, failure: Failure) -> u8
+    ensures { result ≡ 2 }
+{
     let mut console = Console::new(name, io::sink(), ErrorPrinter::new(rt));
     fail(failure, &mut console)
 }
 
-/// Does what the words of the command line ask for, with the standard streams, and gives the status.
+/// Does what the words of the command line ask for, with the standard streams, and returns the
+/// status.
 fn run_words<
     W: Queryable + Send,
     R: Runtime + AllocGlobal + Threads + Wait + Sync,
@@ -158,6 +162,8 @@ where
     R::Dir: Send,
     F: Drop,
     requires { MayServe (F.pre live) }
+    ensures documented { result ≤ 3 }
+    ensures refused { AskForNothing (map string_bytes words.now) → result ≡ 2 }
 {
     let name = called(words);
     match output(rt) {
@@ -169,12 +175,14 @@ where
     }
 }
 
-/// Tells that there is no memory to begin with, and gives the status.
-pub fn no_memory<R: Eprint>(rt: &R) -> ExitCode {
+/// Reports that there is no memory to begin with, and returns the status.
+pub fn no_memory<R: Eprint>(rt: &R) -> ExitCode
+    ensures { exit_status result ≡ 2 }
+{
     ExitCode::from(fail_under(rt, UNCALLED, Failure::OutOfMemory))
 }
 
-/// Runs the program under its arguments, and gives the status.
+/// Runs the program under its arguments, and returns the status.
 fn run_over<
     W: Queryable + Send,
     R: Runtime + AllocGlobal + FileReplacer + Threads + Wait + Sync,
@@ -190,6 +198,8 @@ where
     M: Drop,
     requires listens { L.IsAlwaysCallable listen }
     requires makes { M.IsAlwaysCallable make }
+    ensures documented { result ≤ 3 }
+    ensures refused { AskForNothing (map string_bytes words.now) → result ≡ 2 }
 {
     let name = called(words);
     let live = |plan: LivePlan| -> Result<LiveEnd, OutOfMemory>
@@ -201,19 +211,21 @@ where
 }
 
 /// Runs the program for the workflows of a type: it does what the arguments ask for, writes the
-/// report to the standard output and, where there is no full report, why to the standard error, and
-/// gives the status. Where the one who reads the report closes it, that is not reported.
+/// report to the standard output and, if there is no full report, why to the standard error, and
+/// returns the status. It does not report that the standard output is a closed pipe.
 ///
-/// The help lists `types`, the workflow types that there is code for, as `Nap, Greet`, and so does
-/// what is told of a file that has another one. Where they are empty they are not told.
+/// The help lists `types`, the registered workflow types, as `Nap, Greet`, and so does what is
+/// reported of a file that has another one. If they are empty they are not listed.
 ///
 /// Lines on the standard error begin with the name by which the program was called: the last part
-/// of its first word, or `wfhost` where there is none.
+/// of its first word, or `wfhost` if there is none.
 ///
 /// Live tasks are asked for and answered over the calls. Before the first of them `listen` is
 /// called, which has to start a thread that reads the other end by `read_input`, and says whether
 /// it could; that thread is not waited for. `make` makes the handler of each worker, which runs
-/// activities and may beat while it does.
+/// activities and may send heartbeats while it does.
+///
+/// The status is one of the documented ones, 0 to 3.
 pub fn run_with_heartbeats<
     W: Queryable + Send,
     R: Runtime + AllocGlobal + Threads + Wait + Sync,
@@ -229,6 +241,7 @@ where
     M: Drop,
     requires listens { L.IsAlwaysCallable listen }
     requires makes { M.IsAlwaysCallable make }
+    ensures { exit_status result ≤ 3 }
 {
     let words = match words(rt) {
         Ok(words) => words,
@@ -237,7 +250,7 @@ where
     ExitCode::from(run_over::<W, R, C, L, B, M>(rt, types, words.as_slice(), calls, listen, make))
 }
 
-/// Runs the program as `run_with_heartbeats` does, with handlers that do not beat.
+/// Runs the program as `run_with_heartbeats` does, with handlers that send no heartbeats.
 pub fn run_with_types<
     W: Queryable + Send,
     R: Runtime + AllocGlobal + Threads + Wait + Sync,
@@ -253,6 +266,7 @@ where
     M: Drop,
     requires listens { L.IsAlwaysCallable listen }
     requires makes { M.IsAlwaysCallable make }
+    ensures { exit_status result ≤ 3 }
 {
     let make_silent = move || -> WithoutHeartbeat<A>
         requires { M.IsAlwaysCallable make }
@@ -276,6 +290,7 @@ where
     M: Drop,
     requires listens { L.IsAlwaysCallable listen }
     requires makes { M.IsAlwaysCallable make }
+    ensures { exit_status result ≤ 3 }
 {
     run_with_types::<W, R, C, L, A, M>(rt, "", calls, listen, make)
 }

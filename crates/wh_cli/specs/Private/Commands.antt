@@ -37,6 +37,18 @@ pub record HasWorked (lives : LivesBy) (options : WorkOptions) (old new : Consol
   pub reported : Reported old new (λ name. live_as plan.format end)
   pub ends : status ≡ live_status end
 
+-- the plan is one of `replay`
+abbrev pub IsReplay : Plan → Type 0
+IsReplay (Replay dir more format required strict progress) = Unit {0}
+IsReplay _ = ⊥
+
+-- the files that a plan of `replay` names were replayed
+abbrev pub IsReplayed : {S : Type 0} → Program S → (types : List ℕ) → Plan → (old new : ConsoleView) → (status : ℕ)
+    → Type 0
+IsReplayed program types (Replay dir more format required strict progress) old new status =
+    HasReplayedPaths program types dir more.items format required strict progress old new status
+IsReplayed program types _ old new status = ⊥
+
 -- what a plan asks for was done
 abbrev pub Obeys : {S : Type 0} → Program S → Queries S → LivesBy → (types : List ℕ) → Plan → (old new : ConsoleView)
     → (status : ℕ) → Type 0
@@ -66,7 +78,7 @@ pub record ObeysWords {S : Type 0} (program : Program S) (queries : Queries S) (
   pub asked : IsAskedBy words plan
   pub obeys : Obeys program queries lives types plan old new status
 
--- what a program at a path is called: the last part of the path, or `wfhost` where there is none
+-- what a program at a path is called: the last part of the path, or `wfhost` if there is none
 abbrev pub name_of : List ℕ → List ℕ
 name_of path = unwrap_or (path_file_name path) (codes "wfhost")
 
@@ -75,21 +87,25 @@ abbrev pub called : List (List ℕ) → List ℕ
 called [] = codes "wfhost"
 called (word ∷ words) = name_of word
 
--- nobody reads on: nothing can be written, and the standard output was closed by the one who read it
+-- the standard output is a closed pipe: it can't be written, since its reader closed it
 abbrev pub is_unread : Failure → Bool → Bool
 is_unread Output closed = closed
 is_unread _ closed = false
 
--- why there is no full report, unless nobody reads on
+-- why there is no full report, unless the standard output is a closed pipe
 abbrev pub end_text : Failure → Bool → List ℕ → List ℕ
 end_text failure closed name = if is_unread failure closed then [] else failed_text failure name
 
--- there is no full report: why was reported last, unless nobody reads on, and the status is 2
+-- there is no full report: why was reported last, unless the standard output is a closed pipe, and the status is 2
 pub record HasFailed (new : ConsoleView) (status : ℕ) : Type 0 where
   pub failure : Failure
   pub between : ConsoleView
   pub reported : Reported between new (end_text failure new.closed)
   pub ends : status ≡ 2
+
+-- no plan is asked for by the words
+abbrev pub AskForNothing : List (List ℕ) → Type 0
+AskForNothing words = (plan : Plan) → IsAskedBy words plan → ⊥
 
 -- what the words ask for was done, or there is no full report
 abbrev pub Answers : {S : Type 0} → Program S → Queries S → LivesBy → (types : List ℕ) → List (List ℕ)

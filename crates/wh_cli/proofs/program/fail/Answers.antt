@@ -2,7 +2,7 @@ use Rattle.std.proofs.Common.{refl, rules}
 use Rattle.wh_cli.proofs.Endings.{nothing_said, why_said}
 use Rattle.wh_cli.proofs.program.fail.Goals as goal
 
--- nothing is reported where nobody reads on
+-- nothing is reported on a closed pipe
 pub returns-then-is_unread : goal.returns-then-is_unread
 returns-then-is_unread g c = record {
   failure = c.args.failure;
