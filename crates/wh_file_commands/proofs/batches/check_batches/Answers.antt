@@ -92,3 +92,21 @@ returns-clause-told g c =
     (as_many c.args.strict program Reads) (batches_fit c.args.mode (length inputs) c.loop-batch._batch few) c.loop-batch.invariant
     (λ front are. adds_after c.args.strict program Reads front left old all adds are)
     (marks_after c.args.strict program Reads left old all adds)).1
+
+-- it stopped after some batches
+pub returns-in_err-check_batch-clause-stopped : goal.returns-in_err-check_batch-clause-stopped
+returns-in_err-check_batch-clause-stopped g c =
+    let inputs = c.args.inputs.items in
+    let many = c.len-total.ensures ∙ c.args.inputs.ok.0 in
+    let few = subst (λ n. c.loop-batch._batch ≤ n) (c.reported_batches-batch-end.ensures.batches ∙ ap (reported_batches c.args.mode) many) c.loop-batch.auto._batch-end in
+    batched_stopped (AreRecordsOf c.args.strict g.W.Workflow.program (IsReadAs g.R.InputReader.gives)) faulty_of c.args.mode inputs c.loop-batch._batch
+    c.loop-batch.records.items c.loop-batch.left.items c.args.console.now c.loop-batch.console few c.loop-batch.invariant
+
+-- it stopped after some batches
+pub returns-in_err-check_batch-2-clause-stopped : goal.returns-in_err-check_batch-2-clause-stopped
+returns-in_err-check_batch-2-clause-stopped g c =
+    let inputs = c.args.inputs.items in
+    let many = c.len-total.ensures ∙ c.args.inputs.ok.0 in
+    let few = subst (λ n. c.loop-batch._batch ≤ n) (c.reported_batches-batch-end.ensures.batches ∙ ap (reported_batches c.args.mode) many) c.loop-batch.auto._batch-end in
+    batched_stopped (AreRecordsOf c.args.strict g.W.Workflow.program (IsReadAs g.R.InputReader.gives)) faulty_of c.args.mode inputs c.loop-batch._batch
+    c.loop-batch.records.items c.loop-batch.left.items c.args.console.now c.loop-batch.console few c.loop-batch.invariant

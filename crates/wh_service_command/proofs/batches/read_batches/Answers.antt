@@ -93,3 +93,21 @@ returns-clause-reported g c =
     (read_each Reads program) (batches_fit c.args.mode (length inputs) c.loop-batch._batch few) c.loop-batch.invariant
     (λ front are. read_both Reads program front left old all are adds)
     (marks_both Reads program left old all adds)).1
+
+-- it stopped after some batches
+pub returns-in_err-read_batch-clause-stopped : goal.returns-in_err-read_batch-clause-stopped
+returns-in_err-read_batch-clause-stopped g c =
+    let inputs = c.args.inputs.items in
+    let many = c.len-total.ensures ∙ c.args.inputs.ok.0 in
+    let few = subst (λ n. c.loop-batch._batch ≤ n) (c.reported_batches-batch-end.ensures.batches ∙ ap (reported_batches c.args.mode) many) c.loop-batch.auto._batch-end in
+    batched_stopped (HasRead (IsReadAs g.R.InputReader.gives) g.W.Workflow.program) faulty_in c.args.mode inputs c.loop-batch._batch
+    c.loop-batch.read c.loop-batch.left.items c.args.console.now c.loop-batch.console few c.loop-batch.invariant
+
+-- it stopped after some batches
+pub returns-in_err-read_batch-2-clause-stopped : goal.returns-in_err-read_batch-2-clause-stopped
+returns-in_err-read_batch-2-clause-stopped g c =
+    let inputs = c.args.inputs.items in
+    let many = c.len-total.ensures ∙ c.args.inputs.ok.0 in
+    let few = subst (λ n. c.loop-batch._batch ≤ n) (c.reported_batches-batch-end.ensures.batches ∙ ap (reported_batches c.args.mode) many) c.loop-batch.auto._batch-end in
+    batched_stopped (HasRead (IsReadAs g.R.InputReader.gives) g.W.Workflow.program) faulty_in c.args.mode inputs c.loop-batch._batch
+    c.loop-batch.read c.loop-batch.left.items c.args.console.now c.loop-batch.console few c.loop-batch.invariant
