@@ -1,6 +1,6 @@
 -- Inputs that are worked on batch by batch.
 use Rattle.std.proofs.Common.{◌≡◌, ◌∙◌, ℕ, zero, suc, ◌*◌, ◌+◌, ◌-◌, ◌≤◌, ◌<◌, List, [], ◌++◌, length, take, drop, sym, ap, subst, arith}
-use Rattle.std.specs.Prelude.{Bool}
+use Rattle.std.specs.Prelude.{Bool, Result, Ok, Err, IfErr}
 use Rattle.std.proofs.Math.Seq.{take-add}
 use Rattle.std.proofs.lemmas.List.{append-nil, drop-drop, length-drop, length-take-le, take-append-drop}
 use Rattle.wh_console.proofs.Printing.{nothing_reported}
@@ -205,3 +205,8 @@ whole_after_all Are faulty mode inputs made old new many found reported = record
   reported = subst (λ n. Reported old new (λ name. reports_after mode n (faulty made) (reported_batches mode n) name ++ end_text mode (reported_batches mode n) name))
       (many inputs made found) reported;
 }
+
+-- whatever the fault is
+pub stopped_if : {X E : Type 0} {P : Type 0} (answer : Result X E) → P → IfErr answer (λ fault. P)
+stopped_if (Ok x) stopped = tt
+stopped_if (Err fault) stopped = stopped

@@ -54,7 +54,7 @@ pub served_all : {S : Type 0} (gives : Gives) (program : Program S) (types : Lis
 served_all gives program types hosts config sizes inputs mode lines lacks old read first new served status same many h erased finished =
     let ended = finished.ended in
     let written = end_kept served first.output finished.between.output ended.between.output finished.end finished.written ended.kept in
-    let service = end_of_served hosts config (readings_of h.read) h.read.faults.items served first.output ended.between.output finished.end h.served written in
+    let service = end_of_served hosts config (readings_of h.read) h.read.faults.items served first.output ended.between.output finished.end h.service written in
     let told = told_in_all (HasRead (IsReadAs gives) program) faulty_in mode inputs lines h.read old read first (marked gives program) many h.found h.reported erased in
     record {
       files = h.found.files;
@@ -67,7 +67,7 @@ served_all gives program types hosts config sizes inputs mode lines lacks old re
       quiet = quiet_twice first finished.between ended.between finished.quiet ended.quiet;
       served = subst (λ l. IsServiceEnd hosts sizes l first.output ended.between.output finished.end) h.found.readings
           (subst (λ c. IsServiceEnd hosts c (readings_of h.read) first.output ended.between.output finished.end) same service);
-      faults = subst (λ l. AreFaultsOf program h.found.files l) (sym (finished.written.faults ∙ h.served.reported)) h.found.reported;
+      faults = subst (λ l. AreFaultsOf program h.found.files l) (sym (finished.written.faults ∙ h.service.reported)) h.found.reported;
       reported = ended.reported;
       known = ended.known;
       ends = ended.ends;

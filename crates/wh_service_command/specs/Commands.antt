@@ -39,7 +39,7 @@ pub record HasServed {S : Type 0} (gives : Gives) (program : Program S) (hosts :
   pub found : HasRead (IsReadAs gives) program inputs read
   pub reported : Reported old new
       (reports_after mode (length inputs) (faulty_in read) (reported_batches mode (length inputs)))
-  pub served : IsServed hosts config (readings_of read) read.faults.items served
+  pub service : IsServed hosts config (readings_of read) read.faults.items served
 
 -- once the report of a service was out, the rest was reported, and the registered workflow types if the type of a file
 -- is not registered; the status is that of the service, unless files are lacking

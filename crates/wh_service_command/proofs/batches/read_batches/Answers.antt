@@ -1,7 +1,7 @@
 use Rattle.std.proofs.Common.{◌≡◌, ◌∙◌, ◌<◌, ◌≤◌, ◌+◌, suc, length, take, drop, ap, ap₂, subst, arith}
 use Rattle.wh_console.specs.Consoles.{Reported}
 use Rattle.wh_inputs.specs.Readings.{IsReadAs}
-use Rattle.wh_progress.proofs.Batched.{AreBatched, batch_left, batched_all, batched_more, batched_none, batched_stopped, batches_fit}
+use Rattle.wh_progress.proofs.Batched.{AreBatched, batch_left, batched_all, batched_more, batched_none, batched_stopped, batches_fit, stopped_if}
 use Rattle.wh_progress.specs.Batches.{batch_size, reports_after, reported_batches}
 use Rattle.wh_progress.specs.Lines.{line_text, progress_of}
 use Rattle.wh_service.proofs.FilesRead.{marks_both, read_both, read_each, read_none}
@@ -100,12 +100,23 @@ returns-in_err-read_batch-clause-stopped g c =
     let inputs = c.args.inputs.items in
     let many = c.len-total.ensures ∙ c.args.inputs.ok.0 in
     let few = subst (λ n. c.loop-batch._batch ≤ n) (c.reported_batches-batch-end.ensures.batches ∙ ap (reported_batches c.args.mode) many) c.loop-batch.auto._batch-end in
-    batched_stopped (HasRead (IsReadAs g.R.InputReader.gives) g.W.Workflow.program) faulty_in c.args.mode inputs c.loop-batch._batch
-    c.loop-batch.read c.loop-batch.left.items c.args.console.now c.loop-batch.console few c.loop-batch.invariant
+    stopped_if c.from_residual.result
+    (batched_stopped (HasRead (IsReadAs g.R.InputReader.gives) g.W.Workflow.program) faulty_in c.args.mode inputs c.loop-batch._batch
+    c.loop-batch.read c.loop-batch.left.items c.args.console.now c.loop-batch.console few c.loop-batch.invariant)
 
 -- it stopped after some batches
 pub returns-in_err-read_batch-2-clause-stopped : goal.returns-in_err-read_batch-2-clause-stopped
 returns-in_err-read_batch-2-clause-stopped g c =
+    let inputs = c.args.inputs.items in
+    let many = c.len-total.ensures ∙ c.args.inputs.ok.0 in
+    let few = subst (λ n. c.loop-batch._batch ≤ n) (c.reported_batches-batch-end.ensures.batches ∙ ap (reported_batches c.args.mode) many) c.loop-batch.auto._batch-end in
+    stopped_if c.from_residual-in_err-read_batch-2.result
+    (batched_stopped (HasRead (IsReadAs g.R.InputReader.gives) g.W.Workflow.program) faulty_in c.args.mode inputs c.loop-batch._batch
+    c.loop-batch.read c.loop-batch.left.items c.args.console.now c.loop-batch.console few c.loop-batch.invariant)
+
+-- it stopped after some batches
+pub returns-in_default-clause-stopped : goal.returns-in_default-clause-stopped
+returns-in_default-clause-stopped g c =
     let inputs = c.args.inputs.items in
     let many = c.len-total.ensures ∙ c.args.inputs.ok.0 in
     let few = subst (λ n. c.loop-batch._batch ≤ n) (c.reported_batches-batch-end.ensures.batches ∙ ap (reported_batches c.args.mode) many) c.loop-batch.auto._batch-end in
