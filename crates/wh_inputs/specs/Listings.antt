@@ -53,18 +53,3 @@ abbrev pub IsUnreadAt : (path : List ℕ) → Failure → Type 0
 IsUnreadAt path (Unreadable dir entry reason) = (dir ≡ path) × (entry ≡ None)
 IsUnreadAt path OutOfMemory = Unit {0}
 IsUnreadAt path _ = ⊥
-
--- nothing can be read at the first of these paths, or there was no memory
-abbrev pub IsUnreadFirst : List (List ℕ) → Failure → Type 0
-IsUnreadFirst [] failure = failure ≡ OutOfMemory
-IsUnreadFirst (path ∷ more) failure = IsUnreadAt path failure
-
--- nothing can be read at one of paths, or there was no memory: what is reported of those before was reported
-pub record IsUnlisted (by_path : Bool) (paths : List (List ℕ)) (old new : ConsoleView) (failure : Failure) : Type 0 where
-  pub front : List (List ℕ)
-  pub rest : List (List ℕ)
-  pub parts : paths ≡ front ++ rest
-  pub inputs : List Input
-  pub left_out : Bool
-  pub listed : AreListed by_path front inputs left_out old new
-  pub unread : IsUnreadFirst rest failure

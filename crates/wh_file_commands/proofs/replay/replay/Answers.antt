@@ -2,6 +2,9 @@ use Rattle.std.proofs.Common.{◌∙◌, ap, subst}
 use Rattle.std.specs.List.{list_any}
 use Rattle.wh_console.specs.Consoles.{Reported}
 use Rattle.wh_known_types.specs.Types.{known_types_text, lacks_code}
+use Rattle.wh_inputs.specs.Readings.{IsReadAs}
+use Rattle.wh_progress.proofs.Batched.{stopped_if}
+use Rattle.wh_file_commands.proofs.Steps.{not_replayed, replayed_cut}
 use Rattle.wh_file_commands.proofs.replay.replay.Goals as goal
 
 -- progress was told, then the report is out, and last the types were told where a file lacks code
