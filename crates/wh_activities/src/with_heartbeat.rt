@@ -18,9 +18,9 @@ pub trait HeartbeatHandler {
     /// Which answers a task may get, by the responses that heartbeats may get. No call changes it.
     ghost may: { Self → Brings → ActivityTask → ActivityAnswer → Type 0 };
 
-    /// Runs the task and returns its answer. Each heartbeat that it sends is for this task. If a
-    /// response was that the activity is to be canceled, a failure is answered as canceled. Returns
-    /// `OutOfMemory` if there was no memory. The task then gets no answer.
+    /// Runs the task and returns its answer. If a response was that the activity is to be canceled,
+    /// the source answers a failure as canceled. Returns `OutOfMemory` if there was no memory. The
+    /// task then gets no answer.
     fn run<H: Heartbeat>(
         &mut self,
         task: &ActivityTask,

@@ -20,7 +20,7 @@ AreWarnings false program bytes verdict warnings = warnings ≡ []
 
 -- the record of a file: its line, its cause, if it has one, what its fault omits, the difference that its replay
 -- stops at, if there is one, and its warnings; if memory ran out there are no warnings, and nothing is known of a cause
--- but that it is one
+-- but that it is one, nor of a difference
 pub record IsRecordOf {S : Type 0} (strict : Bool) (program : Program S) (file : File) (own : Record) : Type 0 where
   pub line : IsLineOf program file own.line
   pub known : IfSome own.cause (IsCauseOf program file.1.items)

@@ -116,8 +116,8 @@ fn write_explained<O: Write>(
 }
 
 /// Writes the explanation of a history file, of the tasks that are selected, or if nothing is of
-/// those that matter, as `wh_explain_report` does. If there is no code for its workflow type, what
-/// is recorded in it follows, as `wh_view_report` writes it, of the tasks that are selected, or of
+/// those that matter, as `wh_explain_report` does. If its workflow type is not registered, what is
+/// recorded in it follows, as `wh_view_report` writes it, of the tasks that are selected, or of
 /// all. The answer is the line of the file in the report of replay. The history is replayed once.
 /// Nothing is written if the answer is `OutOfMemory`.
 pub fn explain_file<W: Workflow, O: Write>(

@@ -112,6 +112,7 @@ fn no_memory(alloc: Global, name: Text) -> Record
     ensures line { result.line ≡ record { name = name; verdict = Verdict.OutOfMemory } }
     ensures cause { result.cause ≡ None }
     ensures detail { result.detail ≡ None }
+    ensures difference { result.difference ≡ None }
     ensures warnings { result.warnings ≡ [] }
 {
     Record {

@@ -28,14 +28,14 @@ use wh_workflow::Job;
 /// most as often as any greater number says.
 const MOST_BUDGET: u64 = 4_611_686_018_427_387_903;
 
-/// Why it is not told whether a promise is kept.
+/// Why it is not decided whether a promise is kept.
 #[derive(Clone, Copy, Debug)]
 pub enum Doubt {
     /// There are more than `MOST_CONFIGURATIONS` configurations: states of a run, its counters and
-    /// what the promise has seen.
+    /// what the promise has seen. Or the search would have to count past 2^62 - 1.
     TooMany,
-    /// No path breaks it in a run that is started without input, and it is not shown for each name
-    /// that a run may have.
+    /// No path was found that breaks it in a run that is started without input, and it is not shown
+    /// for each name that a run may have.
     ByName,
 }
 
@@ -46,7 +46,7 @@ pub enum Verdict {
     Kept,
     /// It is broken in this way.
     Broken(Breach),
-    /// It is not told.
+    /// It is not decided.
     NotDecided(Doubt),
 }
 
@@ -297,7 +297,8 @@ fn by_search(
 /// Decides whether a table keeps a promise. `Kept` says that it is kept whatever jobs come, in
 /// whatever order and number, after the one start. `Broken` has a scenario of a run that breaks it,
 /// and says whether none of fewer jobs does. If neither is found, the verdict says why: `TooMany`
-/// if the search for a path reaches `MOST_CONFIGURATIONS` configurations, and otherwise `ByName`.
+/// if the search looks at `MOST_CONFIGURATIONS` configurations, or counts past the greatest number
+/// that it counts to, and otherwise `ByName`.
 /// `OutOfMemory` if an allocation was refused; nothing is left then.
 pub fn decide(
     alloc: Global,

@@ -4,7 +4,7 @@
 ghost use Rattle.wh_values.specs.Sides.{EncodingsAreShown};
 
 /// Sides of one payload each that differ in its encoding alone are shown with their encodings, and
-/// are not shown alike.
+/// not alike, if each encoding is a text in UTF-8 and not empty.
 pub fn encodings_are_shown()
     ensures { EncodingsAreShown }
 {}

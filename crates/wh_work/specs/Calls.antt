@@ -19,13 +19,13 @@ refused_poll Closed = None
 refused_poll Never = Some false
 refused_poll Later = Some false
 
--- whether a poll with this outcome gave no task, if it is counted
+-- whether a poll with this outcome is counted as an empty one, if it is counted
 abbrev pub IsOutcomePoll : Outcome → Option Bool → Type 0
 IsOutcomePoll (Given value) counted = counted ≡ Some (has_no_task (view value))
 IsOutcomePoll (Refused code message) counted =
     (status : Status) × HasCode status code × (counted ≡ refused_poll (poll_end status))
 
--- whether a poll to which this was responded gave no task, if it is counted: it is not if nothing was responded
+-- whether a poll with this response is counted as an empty one, if it is counted: it is not if there was no response
 abbrev pub IsPoll : Result (ℕ × Outcome) CallFault → Option Bool → Type 0
 IsPoll (Ok responded) counted = IsOutcomePoll responded.1 counted
 IsPoll (Err fault) counted = counted ≡ None

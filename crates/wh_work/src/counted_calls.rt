@@ -41,8 +41,8 @@ fn has_no_task(value: &Value) -> bool
     token_of(value).is_empty()
 }
 
-/// Whether a poll that was refused with this status gave no task, if it is counted: not if there are
-/// no more tasks.
+/// Whether a poll that was refused with this status is counted as an empty one, if it is counted: it
+/// never is, and it is not counted at all if there are no more tasks.
 fn refused_poll(status: Status) -> Option<bool>
     ensures { result ≡ refused_poll (poll_end status) }
 {
@@ -52,8 +52,8 @@ fn refused_poll(status: Status) -> Option<bool>
     }
 }
 
-/// Whether a poll gave no task, if it is counted. A poll that was refused since there are no more
-/// tasks is not.
+/// Whether a poll is counted as an empty one, if it is counted: as one if its result has no task, and
+/// not if it was refused. One that was refused since there are no more tasks is not counted.
 fn poll_of(response: &Result<(u64, Outcome), CallFault>) -> Option<bool>
     ensures { IsPoll response.now result }
 {

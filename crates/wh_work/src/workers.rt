@@ -64,7 +64,7 @@ fn crew_of<'a, R, C, B: Drop, M: Fn() -> B>(
     Ok(crew)
 }
 
-/// The file that counts are kept in, if the plan names one.
+/// The file that counts are kept in: there is one exactly if the plan names one.
 fn metrics_file<'a>(
     alloc: Global,
     plan: &'a LivePlan,
@@ -80,7 +80,7 @@ fn metrics_file<'a>(
     }
 }
 
-/// What reports and keeps the counts, if the plan asks for either.
+/// What reports and keeps the counts: there is one exactly if the plan asks for either.
 fn progress_of<'a, R: Wait + Clock>(
     rt: &'a R,
     alloc: Global,

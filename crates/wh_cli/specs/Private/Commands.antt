@@ -96,7 +96,8 @@ is_unread _ closed = false
 abbrev pub end_text : Failure → Bool → List ℕ → List ℕ
 end_text failure closed name = if is_unread failure closed then [] else failed_text failure name
 
--- there is no full report: why was reported last, unless the standard output is a closed pipe, and the status is 2
+-- there is no full report, for any reason, and whatever was reported before: the reason was reported last, unless the
+-- standard output is a closed pipe, and the status is 2
 pub record HasFailed (new : ConsoleView) (status : ℕ) : Type 0 where
   pub failure : Failure
   pub between : ConsoleView
