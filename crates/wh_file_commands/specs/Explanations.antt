@@ -3,7 +3,7 @@ use Rattle.std.specs.Prelude.{◌≡◌, ℕ, List, [], ◌∷◌, false, Option
 use Rattle.wh_console.specs.Consoles.{ConsoleView, IsQuiet, Reported}
 use Rattle.wh_console.specs.declared.format.Format.{Format}
 use Rattle.wh_diagnostics.specs.Diagnostics.{fault_lines}
-use Rattle.wh_file_faults.specs.Faults.{File, IsFaultOf, IsUnreadCause, reports_of}
+use Rattle.wh_file_faults.specs.Faults.{File, IsFaultOf, IsUnreadCause, reported_of}
 use Rattle.wh_file_faults.specs.declared.file_faults.FileFault.{FileFault}
 use Rattle.wh_files.specs.Inputs.{IsCalled, IsOf, IsReadFrom, IsSingle}
 use Rattle.wh_files.specs.declared.Input.{Input}
@@ -18,7 +18,7 @@ use Rattle.wh_workflow.specs.Law.{Program}
 pub record HasReportedFault (line : Line) (bytes : List ℕ) (old new : ConsoleView) : Type 0 where
   pub fault : Option FileFault
   pub own : IsFaultOf (IsUnreadCause line.verdict) line.name bytes fault
-  pub reported : Reported old new (fault_lines (reports_of fault))
+  pub reported : Reported old new (fault_lines (reported_of fault))
 
 -- a file was explained, and then where it is no JSON was reported if that is the verdict of the line that its explanation
 -- has; the status is that of this line
