@@ -20,8 +20,8 @@ pub record HasReportedFault (line : Line) (bytes : List ℕ) (old new : ConsoleV
   pub own : IsFaultOf (IsUnreadCause line.verdict) line.name bytes fault
   pub reported : Reported old new (fault_lines (reported_of fault))
 
--- a file was explained, and then where it is no JSON was reported if that is the verdict of the line that its explanation
--- has; the status is that of this line
+-- a file was explained, and then where it is no JSON was reported if that is the verdict of the line that its
+-- explanation has; the status is that of this line
 pub record HasExplained {S : Type 0} (program : Program S) (name bytes : List ℕ) (selection : Option Selection)
     (format : Format)
     (old new : ConsoleView) (status : ℕ) : Type 0 where

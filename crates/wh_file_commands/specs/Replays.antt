@@ -30,9 +30,8 @@ pub record HasReported (records : List Record) (format : Format) (lacks : Bool) 
   pub reported : Reported between new (records_lines records)
   pub ends : status ≡ status_with lacks (records_status records)
 
--- inputs were read as files and replayed, progress was told, and then the report of their records was written, which is
--- the same however progress is told; last the workflow types that there is code for were told, where a file has another
--- one
+-- inputs were read as files and replayed, progress was reported, and then the report of their records was written, which
+-- does not depend on how progress is shown; last the registered workflow types were reported, if a file has another one
 pub record HasReplayed {S : Type 0} (gives : Gives) (strict : Bool) (program : Program S) (types : List ℕ)
     (inputs : List Input) (format : Format) (mode : ProgressMode) (lacks : Bool) (old new : ConsoleView) (status : ℕ)
     : Type 0 where
@@ -53,7 +52,7 @@ pub record HasNotReplayed {S : Type 0} (gives : Gives) (strict : Bool) (program 
   pub quiet : IsQuiet between new
   pub unwritten : failure ≢ Output → new.output ≡ between.output
 
--- what paths name was replayed, and progress was reported as the link of the standard error and the option for it have
+-- what paths name was replayed, and progress was reported as some link of the standard error and the option for it have
 -- it
 pub record HasReplayedPaths {S : Type 0} (program : Program S) (types first : List ℕ) (more : List (List ℕ))
     (format : Format) (required strict progress : Bool) (old new : ConsoleView) (status : ℕ) : Type 0 where

@@ -14,7 +14,9 @@ use std::thread::Threads;
 use wh_console::Console;
 use wh_files::{Input, InputFault};
 use wh_inputs::{InputReader, file_from};
-use wh_progress::{Progress, ProgressEnd, ProgressLine, ProgressMode, batch_size, reported_batches};
+use wh_progress::{
+    Progress, ProgressEnd, ProgressLine, ProgressMode, batch_size, reported_batches,
+};
 use wh_report::{Record, check_all};
 use wh_tester::is_good;
 use wh_workflow::Workflow;
@@ -66,7 +68,7 @@ fn check_batch<W: Workflow + Send, R: InputReader + AllocGlobal + Threads + Sync
 }
 
 /// Replays inputs batch by batch, and returns their records in their order. Progress is reported
-/// after each batch but the last, also if a later input can't be read.
+/// after each batch but the last; if an input can't be read, after some of those before it at most.
 fn check_batches<
     W: Workflow + Send,
     R: InputReader + AllocGlobal + Threads + Sync,

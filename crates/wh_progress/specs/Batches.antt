@@ -27,8 +27,8 @@ reports_of mode faulty name =
     reports_after mode (length faulty) faulty (reported_batches mode (length faulty)) name
     ++ end_text mode (reported_batches mode (length faulty)) name
 
--- the work on inputs stopped before its end: something was made of the first of them, and progress was reported after
--- batches of these
+-- something was made of inputs from the first on, perhaps of all, and progress was reported after some batches of
+-- these, perhaps none
 pub record HasStopped {T A : Type 0} (Are : List T → A → Type 0) (faulty : A → List Bool) (mode : ProgressMode)
     (inputs : List T) (old new : ConsoleView) : Type 0 where
   pub front : List T
@@ -41,7 +41,7 @@ pub record HasStopped {T A : Type 0} (Are : List T → A → Type 0) (faulty : A
   pub within : batches * batch_size (length inputs) ≤ length front
   pub reported : Reported old new (reports_after mode (length inputs) (faulty made) batches)
 
--- so it did, and then a line that was written over itself was erased
+-- the same, and then a line that was written over itself was erased
 pub record HasStoppedWhole {T A : Type 0} (Are : List T → A → Type 0) (faulty : A → List Bool) (mode : ProgressMode)
     (inputs : List T) (old new : ConsoleView) : Type 0 where
   pub front : List T

@@ -58,7 +58,7 @@ pub fn mode_by(link: Option<&str>, asked: bool) -> ProgressMode
 }
 
 /// Returns how progress is shown, as `mode_by` does, by the link that the system has for the
-/// standard error. That is all that is not known of it.
+/// standard error. Contracts know nothing of that link.
 pub fn progress_mode<R: Files + AllocGlobal>(rt: &R, asked: bool) -> ProgressMode
     ensures mode { (link : Option (List ℕ)) × (result ≡ mode_by link asked) }
 {

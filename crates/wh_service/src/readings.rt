@@ -222,7 +222,8 @@ fn read_file<W: Workflow>(
     }
 }
 
-/// Reads inputs and parses them in threads. Beside each stands what is reported of it.
+/// Reads inputs and parses them in threads. Beside the files stands what is reported of them, in
+/// their order.
 fn read_all<
     W: Workflow + Send,
     R: Threads + Sync,

@@ -51,7 +51,8 @@ fn read_batch<W: Workflow + Send, R: InputReader + AllocGlobal + Threads + Sync>
 }
 
 /// Reads inputs batch by batch, and returns what was read of them in their order. Progress is
-/// reported after each batch but the last, also where a later input can't be read.
+/// reported after each batch but the last; if an input can't be read, after some of those before it
+/// at most.
 pub(crate) fn read_batches<
     W: Workflow + Send,
     R: InputReader + AllocGlobal + Threads + Sync,

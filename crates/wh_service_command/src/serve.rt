@@ -153,9 +153,8 @@ where
 /// are lacking. If the workflow type of a file is not registered, `types` are reported last, which
 /// are, unless they are empty.
 ///
-/// `Unreadable` if the folder or one of its files can't be read; progress has been reported up to
-/// that file then, and nothing is written, as with `OutOfMemory`. `Output` if the report can't be
-/// written.
+/// `Unreadable` if the folder or one of its files can't be read; progress may have been reported
+/// then, and nothing is written, as with `OutOfMemory`. `Output` if the report can't be written.
 pub fn serve_folder<
     W: Workflow + Send,
     R: Runtime + AllocGlobal + Threads + Wait + Sync,

@@ -37,7 +37,8 @@ pub fn serve_with_failures<W: Workflow + Send, R: Threads + Wait + Sync, O: Writ
     requires { AreWithinLimits workers cache cache_events slots }
     ensures report { let config = config_of workers cache cache_events slots in
         let readings = map reading_of files.items in
-        IfOk result (IsServiceEnd (IsHosted W.program) config readings (O.contents writer.old) (O.contents writer.new)) }
+        IfOk result (IsServiceEnd (IsHosted W.program) config readings
+        (O.contents writer.old) (O.contents writer.new)) }
     ensures faults { IfOk result (λ end. AreFaultsOf W.program files.items end.file_faults.items) }
     ensures unwritten { result ≡ Err CommandFault.OutOfMemory → writer.new ≡ writer.old }
 {

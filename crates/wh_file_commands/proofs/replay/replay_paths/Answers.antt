@@ -5,8 +5,9 @@ use Rattle.wh_file_commands.proofs.replay.replay_paths.Goals as goal
 pub returns : goal.returns
 returns g c =
     let listed = c.in_ok-listed.listed in
-    record { replayed =
-    replayed_paths g.W.Workflow.program c.args.types.now c.args.first c.args.more.items c.args.format c.args.require_files c.args.strict listed.left_out c.lacks_files-lacks.result c.args.progress c.progress_mode-mode.ensures.mode.0 c.progress_mode-mode.result listed.inputs.items
-    c.args.console.now c.all_inputs.new.console c.replay.new.console
-    c.replay.result c.in_ok-listed.ensures.listed c.lacks_files-lacks.ensures.lacks c.progress_mode-mode.ensures.mode.1 c.replay.ensures.replayed;
+    record {
+      replayed =
+          replayed_paths g.W.Workflow.program c.args.types.now c.args.first c.args.more.items c.args.format c.args.require_files c.args.strict listed.left_out c.lacks_files-lacks.result c.args.progress c.progress_mode-mode.ensures.mode.0 c.progress_mode-mode.result listed.inputs.items
+          c.args.console.now c.all_inputs.new.console c.replay.new.console
+          c.replay.result c.in_ok-listed.ensures.listed c.lacks_files-lacks.ensures.lacks c.progress_mode-mode.ensures.mode.1 c.replay.ensures.replayed;
     }
