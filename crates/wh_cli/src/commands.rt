@@ -148,15 +148,7 @@ where
             options,
             require_files,
             progress,
-        } => serve_folder::<W, R, O, E>(
-            rt,
-            dir,
-            options,
-            require_files,
-            progress,
-            types,
-            console,
-        ),
+        } => serve_folder::<W, R, O, E>(rt, dir, options, require_files, progress, types, console),
         Plan::Work { options } => work::<R, F, O, E>(rt, options, live, console),
         Plan::Help { text } => print(text.get(), console),
     }

@@ -35,7 +35,7 @@ records_both strict program Reads first second ones others a b = record {
 }
 
 -- each input has one record
-as_many : {S T : Type 0} (strict : Bool) (program : Program S) (Reads : T → File → Type 0) (inputs : List T) (records : List Record)
+pub as_many : {S T : Type 0} (strict : Bool) (program : Program S) (Reads : T → File → Type 0) (inputs : List T) (records : List Record)
     → AreRecordsOf strict program Reads inputs records → length (faulty_of records) ≡ length inputs
 as_many strict program Reads inputs records are =
     length-map records (λ own. not (is_good own.line.verdict))

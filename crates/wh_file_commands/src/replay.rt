@@ -82,7 +82,10 @@ fn replay<W: Workflow + Send, R: InputReader + AllocGlobal + Threads + Sync, O: 
 {
     let records = check_in_batches::<W, R, O, E>(rt, inputs, strict, mode, console)?;
     let lacking = lack_code(records.as_slice());
-    let status = end_report(records, format, lacks, console)?;
+    let status = match end_report(records, format, lacks, console) {
+        Ok(status) => status,
+        Err(failure) => return Err(failure),
+    };
     console.report(KnownTypes { types, lacking });
     Ok(status)
 }

@@ -1,4 +1,4 @@
-use Rattle.std.proofs.Common.{◌≡◌, ◌∙◌, ◌<◌, ◌≤◌, ◌+◌, suc, length, take, drop, ap, ap₂, subst, arith}
+use Rattle.std.proofs.Common.{◌≡◌, ◌∙◌, ◌<◌, ◌≤◌, ◌+◌, [], suc, length, take, drop, ap, ap₂, rules, subst, sym, arith}
 use Rattle.wh_console.specs.Consoles.{Reported}
 use Rattle.wh_file_commands.specs.Batches.{faulty_of}
 use Rattle.wh_inputs.specs.Readings.{IsReadAs}
@@ -14,7 +14,9 @@ pub loop-batch-init : goal.loop-batch-init
 loop-batch-init g c =
     let program = g.W.Workflow.program in
     let Reads = IsReadAs g.R.InputReader.gives in
-    batched_none (AreRecordsOf c.args.strict program Reads) faulty_of c.args.mode c.args.inputs.items [] c.args.console.now (no_records c.args.strict program Reads)
+    let empty : c.new-records.result.items ≡ [] = search rules in
+    subst (λ l. AreBatched (AreRecordsOf c.args.strict program Reads) faulty_of c.args.mode c.args.inputs.items 0 l c.args.inputs.items c.args.console.now c.args.console.now) (sym empty)
+    (batched_none (AreRecordsOf c.args.strict program Reads) faulty_of c.args.mode c.args.inputs.items [] c.args.console.now (no_records c.args.strict program Reads))
 
 -- a batch lies within what is left
 pub split_off-requires : goal.split_off-requires

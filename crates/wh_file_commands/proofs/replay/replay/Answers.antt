@@ -17,6 +17,13 @@ returns-clause-replayed g c =
       ended = c.end_report.new.console;
       found = c.in_ok-records.ensures.found;
       told = c.in_ok-records.ensures.told;
-      reported = c.in_ok-status.ensures.reported;
+      reported = c.in-Ok.ensures.reported;
       known = subst (λ lacking. Reported c.end_report.new.console c.report.new.self (known_types_text c.args.types.now lacking)) same c.report.ensures;
     }
+
+-- or the report can't be put out
+pub returns-in-Err-clause-stopped : goal.returns-in-Err-clause-stopped
+returns-in-Err-clause-stopped g c =
+    replayed_cut g.R.InputReader.gives c.args.strict g.W.Workflow.program c.args.inputs.items c.args.mode c.in_ok-records.records.items
+    c.args.console.now c.check_in_batches.new.console c.end_report.new.console c.in-Err.failure
+    c.in_ok-records.ensures.found c.in_ok-records.ensures.told c.in-Err.ensures.cut
