@@ -33,8 +33,8 @@ obeyed program queries lives types (Query file query_type input format) old new 
 obeyed program queries lives types (Check file more format) old new status h = (let is = h.checked.checked.ends in grind arith)
 obeyed program queries lives types (Picture file) old new status h = (let is = h.drawn.ends in grind arith)
 obeyed program queries lives types (Try file scenario) old new status h = same status _ h.tried.ends (tried _)
-obeyed program queries lives types (Serve dir options required) old new status h =
-    (let is = h.served.ends in let own = h.served.served.ended.ends in grind arith)
+obeyed program queries lives types (Serve dir options required progress) old new status h =
+    (let is = h.served.ends in let own = h.served.served.ends in grind arith)
 obeyed program queries lives types (Work options) old new status h = (let is = h.ends in grind arith)
 obeyed program queries lives types (Help text) old new status h = (let is = h.ends in omega arith)
 

@@ -68,8 +68,8 @@ IsCutOff old new failure = (failure ≡ Output) × IsQuiet old new
 
 -- inputs were read as files, in their order; progress was reported, by which of them have no history that can be read,
 -- and a line that was written over itself erased; the report of a service of these files was written, which does not
--- depend on how progress is shown; then the rest was reported, and the registered workflow types if the type of a file is not registered; the
--- status is that of the service, unless files are lacking
+-- depend on how progress is shown; then the rest was reported, and the registered workflow types if the type of a file
+-- is not registered; the status is that of the service, unless files are lacking
 pub record HasServedAll {S : Type 0} (gives : Gives) (program : Program S) (types : List ℕ) (hosts : HostsBy)
     (config : Config) (inputs : List Input) (mode : ProgressMode) (lacks : Bool) (old new : ConsoleView)
     (status : ℕ) : Type 0 where
