@@ -7,7 +7,7 @@ use Rattle.wh_files.specs.declared.InputFault.TheVariants.{OutOfMemory}
 use Rattle.wh_file_faults.specs.declared.file_faults.FileFault.{FileFault}
 use Rattle.wh_file_faults.specs.Faults.{File, IsReportedOf, reported_of, AreFaultsOf}
 
--- what was made of inputs by a relation, one by one, with what is told of each; that stands apart, in the same order
+-- what was made of inputs by a relation, one by one, and apart from it, in the same order, what is reported of each
 pub record AreMade {T U : Type 0} (Makes : T → U × Option FileFault → Type 0) (inputs : List T) (made : List U)
     (faults : List FileFault) : Type 0 where
   pub both : List (U × Option FileFault)
@@ -15,7 +15,7 @@ pub record AreMade {T U : Type 0} (Makes : T → U × Option FileFault → Type 
   pub ones : made ≡ map (λ one. one.0) both
   pub told : faults ≡ flat_map reported_of (map (λ one. one.1) both)
 
--- what was made of an input: it was read as a file, and the rest was made and is told of that file
+-- what was made of an input: it was read as a file, and the rest was made and is reported of that file
 pub record IsMadeOf {S T U : Type 0} (program : Program S) (Reads : T → File → Type 0) (Gives : File → U → Type 0)
     (input : T) (made : U × Option FileFault) : Type 0 where
   pub file : File
@@ -23,7 +23,7 @@ pub record IsMadeOf {S T U : Type 0} (program : Program S) (Reads : T → File �
   pub gives : Gives file made.0
   pub told : IsReportedOf program file made.1
 
--- what was made of inputs: each was read as a file, in their order, and the rest was made and is told of these files
+-- what was made of inputs: each was read as a file, in order, and the rest was made and is reported of these files
 pub record AreMadeOf {S T U : Type 0} (program : Program S) (Reads : T → File → Type 0) (Gives : File → U → Type 0)
     (inputs : List T) (made : List U) (faults : List FileFault) : Type 0 where
   pub files : List File

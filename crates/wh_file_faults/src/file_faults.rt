@@ -1,4 +1,4 @@
-//! Files that are no JSON, and where, and files of workflow types that there is no code for.
+//! Files that are not JSON, and where, and files whose workflow type is not registered.
 
 ghost use Rattle.std.specs.Prelude.{◌≡◌, ℕ, List, ◌++◌, [], ◌∷◌, IfErr, IfOk, OnOk, Some, map};
 ghost use Rattle.std.specs.List.{flat_map};
@@ -20,22 +20,22 @@ use wh_workflow::Workflow;
 /// Why a file is named beside the report.
 #[derive(Drop)]
 pub enum Cause {
-    /// It is no JSON.
+    /// It is not JSON.
     NotJson {
         /// Where the reader stops.
         position: Position,
-        /// What it begins with, where that is no JSON text in UTF-8.
+        /// What it begins with, if that is not JSON text in UTF-8.
         mark: Option<Mark>,
     },
-    /// There is no code for its workflow type.
+    /// Its workflow type is not registered.
     NoCode {
         /// The workflow type.
         kind: Text,
     },
 }
 
-/// A file that is no JSON or has a workflow type that there is no code for. As a text: the name of
-/// the file as the report shows it, and the place or the workflow type.
+/// A file that is not JSON or whose workflow type is not registered. As a text: the name of the
+/// file as the report shows it, and the place or the workflow type.
 #[derive(Drop)]
 pub struct FileFault {
     /// The name of the file.
@@ -92,7 +92,8 @@ impl fmt::Display for FileFault {
     }
 }
 
-/// Where bytes are no JSON, if they are none. `OutOfMemory` where there was no memory to read them.
+/// Returns where bytes are not JSON, if they are not. `OutOfMemory` if there was no memory to read
+/// them.
 #[tactic(auto, using(crate::proofs::Documents::is_there))]
 fn json_cause(alloc: Global, bytes: &[u8]) -> Result<Option<Cause>, OutOfMemory>
     ensures { IfOk result (IsJsonCause bytes.now) }
@@ -104,8 +105,8 @@ fn json_cause(alloc: Global, bytes: &[u8]) -> Result<Option<Cause>, OutOfMemory>
     }
 }
 
-/// Where bytes with this verdict are no JSON, if they are unreadable for that. They are read once
-/// more for it, and for nothing else. `OutOfMemory` where there was no memory for that.
+/// Returns where bytes are not JSON, if that is the verdict on them. They are read a second time
+/// then, and only then. `OutOfMemory` if there was no memory for that.
 pub fn unread_cause(
     alloc: Global,
     verdict: &Verdict,
@@ -120,8 +121,8 @@ pub fn unread_cause(
     }
 }
 
-/// Where a file is no JSON, if it is none. `OutOfMemory` where there was no memory to read it or
-/// for its name.
+/// Returns where a file is not JSON, if it is not. `OutOfMemory` if there was no memory to read it
+/// or for its name.
 pub fn json_fault(alloc: Global, name: &str, bytes: &[u8]) -> Result<Option<FileFault>, OutOfMemory>
     ensures { IfOk result (IsFaultOf IsJsonCause name.now bytes.now) }
 {
@@ -132,8 +133,8 @@ pub fn json_fault(alloc: Global, name: &str, bytes: &[u8]) -> Result<Option<File
     Ok(Some(FileFault { name, cause }))
 }
 
-/// The workflow type of a history whose events are in place, if there is no code for it, as the
-/// fault of the file that it was read of. `OutOfMemory` where there was no memory for the names.
+/// Returns the workflow type of a history whose events are in place, if it is not registered, as
+/// the fault of the file that it was read from. `OutOfMemory` if there was no memory for the names.
 #[tactic(auto, using(crate::proofs::Faults::uncoded))]
 pub fn code_fault<W: Workflow>(
     alloc: Global,

@@ -1,5 +1,5 @@
-//! What is made of files in threads, and the faults that are reported of them: which are no JSON,
-//! and for which workflow types there is no code.
+//! What is made of files in threads, and the faults that are reported of them: which are not JSON,
+//! and which workflow types are not registered.
 #![tactic(auto)]
 
 mod command_fault;

@@ -11,7 +11,7 @@ use wh_events::OutOfMemory;
 
 /// What is made of files, in their order, whichever is done first, and apart from it what is
 /// reported of files, or the fault of one of which nothing can be made. `rayon` spreads the files
-/// over threads, down to one file each. `OutOfMemory` where there was no memory for the lists.
+/// over threads, down to one file each. `OutOfMemory` if there was no memory for the lists.
 pub fn all_made<
     T: Send + Drop,
     U: Send + Drop,

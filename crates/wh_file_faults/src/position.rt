@@ -1,4 +1,4 @@
-//! Where bytes are no JSON.
+//! Where bytes are not JSON.
 
 ghost use Rattle.std.specs.Prelude.{◌≡◌, IfOk, is_none, is_some};
 ghost use Rattle.wh_file_faults.specs.Faults.{mark_of};
@@ -14,12 +14,12 @@ use wh_events::OutOfMemory;
 pub struct Position {
     /// The line, from 1.
     pub line: usize,
-    /// The byte in the line, from 1. Where the bytes end too soon, it is the last byte of the line,
-    /// and 0 where the line has none.
+    /// The byte in the line, from 1. If the bytes end too soon, it is the last byte of the line,
+    /// and 0 if the line has none.
     pub column: usize,
 }
 
-/// What bytes begin with that are no JSON text in UTF-8.
+/// What bytes begin with that are not JSON text in UTF-8.
 #[derive(Clone, Copy, Debug, Drop, PartialEq, Eq)]
 pub enum Mark {
     /// The byte order mark of UTF-8, which a JSON text may not begin with.

@@ -36,14 +36,14 @@ run_table way = record {
   closed = way.left.run.closed;
 }
 
--- that of the run of a history file, which is there exactly if the run brings a table and a workflow task was started
+-- that of the run of a history file, which is there exactly when the run brings a table and a workflow task was started
 pub record IsTableIn (bytes : List ℕ) (table : Option RunTable) : Type 0 where
   pub way : Option Way
   pub took : IsWayOf bytes way
   pub is : table ≡ option_map run_table way
   pub brought : IsSome table ↔ BringsTable bytes
 
--- the same, but none where nothing is replayed
+-- the same, but none if nothing is replayed
 abbrev pub IsTableOf : (only_recorded : Bool) → (bytes : List ℕ) → Option RunTable → Type 0
 IsTableOf true bytes table = table ≡ None
 IsTableOf false bytes table = IsTableIn bytes table

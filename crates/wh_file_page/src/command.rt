@@ -88,15 +88,15 @@ fn write_page<O: Write>(own: &Prepared, writer: &mut O) -> io::Result<()>
 /// It shows what the bytes hold, as `wh_view::view_of` views it, also where the reader of histories
 /// refuses an event. The file is replayed once with the code of `W`: the page has the verdict in the
 /// words of its line in the report of replay, both sides of a difference, and marks the event that
-/// the verdict is about. The status is that of the report: 0 where the verdict is good, and else 1.
+/// the verdict is about. The status is that of the report: 0 if the verdict is good, and else 1.
 /// With `only_recorded` nothing is replayed, the page has no verdict, and the status is 0.
 ///
 /// If the type is `Table` or `Table:NAME`, the first payload of the start's input is a table and a
 /// workflow task was started, the page has that table as `wh_table_picture` draws it, with marks at
-/// the rows that the run takes in a replay, up to its fault where it has one. This does not depend
+/// the rows that the run takes in a replay, up to its fault if it has one. This does not depend
 /// on `W`. Otherwise, and with `only_recorded`, the page has no table.
 ///
-/// `Unviewed` where the bytes have no list of events. Nothing is written then, nor where the answer
+/// `Unviewed` if the bytes have no list of events. Nothing is written then, nor if the answer
 /// is `OutOfMemory`; after `Output` some of the page may have been written.
 pub fn page_command<W: Workflow, O: Write>(
     alloc: Global,

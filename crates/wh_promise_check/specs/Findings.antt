@@ -27,7 +27,7 @@ phrases_of (Ok value) = read_ok (phrases_at faults.NoRows (field (codes "promise
 abbrev pub phrases_in : List ℕ → Option (List (List ℕ))
 phrases_in bytes = phrases_of (document_within bytes)
 
--- what is found of a promise is right; where there is none, that is found
+-- what is found of a promise is right; if there is none, that is found
 abbrev pub IsOutcome : Definition → Option TablePromise → Outcome → Type 0
 IsOutcome table None outcomes.NoPromise = Unit {0}
 IsOutcome table (Some promise) (outcomes.Decided verdict) = IsRight table (promise_of promise) verdict

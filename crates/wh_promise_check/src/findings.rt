@@ -35,7 +35,8 @@ pub struct PromiseFinding {
 /// What is found of the promises of a table.
 #[derive(Drop)]
 pub enum PromiseFindings {
-    /// The member `promises` is neither a text nor a list of texts, or the bytes are no JSON (RFC 8259).
+    /// The member `promises` is neither a text nor a list of texts, or the bytes are not JSON
+    /// (RFC 8259).
     NoPhrases,
     /// There are more than `MOST_PROMISES`.
     TooMany,
@@ -43,7 +44,7 @@ pub enum PromiseFindings {
     Each(Items<PromiseFinding>),
 }
 
-/// The phrases of the member `promises`. `None` where it is neither a text nor a list of texts.
+/// The phrases of the member `promises`. `None` if it is neither a text nor a list of texts.
 fn phrases_in(alloc: Global, bytes: &[u8]) -> Result<Option<Vec<Text>>, OutOfMemory>
     ensures { IfOk result (λ found. option_map (λ texts. texts.items) found ≡ phrases_in bytes.now) }
 {
@@ -71,7 +72,7 @@ fn decided(
     Ok(Outcome::Decided(verdict))
 }
 
-/// What is found where a phrase says this promise, or none.
+/// What is found if a phrase says this promise, or none.
 fn outcome_by(
     alloc: Global,
     table: &OwnedTable,
@@ -126,7 +127,7 @@ fn findings_of(
 
 /// Decides each promise of the member `promises` of a table's JSON: a phrase or a list of phrases. The
 /// bytes are those that `read_table` read as the table. A table without the member has no promise.
-/// `OutOfMemory` where an allocation was refused; nothing is left then.
+/// `OutOfMemory` if an allocation was refused; nothing is left then.
 pub fn check_promises(
     alloc: Global,
     bytes: &[u8],

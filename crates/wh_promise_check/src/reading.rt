@@ -10,7 +10,7 @@ use wh_table_promises::{Happening, TablePromise};
 use wh_table_text::{TableFault, number_in, own_job_at, rest, word};
 use wh_workflow::text_of;
 
-/// What stands before the first colon of a text, or all where there is none.
+/// What stands before the first colon of a text, or all if there is none.
 fn before_colon(text: &str) -> &str
     ensures { result.now ≡ before 58 text.now }
 {
@@ -20,7 +20,7 @@ fn before_colon(text: &str) -> &str
     }
 }
 
-/// What stands before the first comma of a text, or all where there is none.
+/// What stands before the first comma of a text, or all if there is none.
 fn before_comma(text: &str) -> &str
     ensures { result.now ≡ before 44 text.now }
 {
@@ -30,7 +30,7 @@ fn before_comma(text: &str) -> &str
     }
 }
 
-/// What follows a space that the text begins with; nothing where it does not.
+/// What follows a space that the text begins with; nothing if it does not.
 fn spaced(text: &str) -> &str
     ensures { result.now ≡ spaced text.now }
 {
@@ -41,7 +41,7 @@ fn spaced(text: &str) -> &str
     }
 }
 
-/// What stands behind the first colon of a text; nothing where there is none.
+/// What stands behind the first colon of a text; nothing if there is none.
 fn after_colon(text: &str) -> &str
     ensures { result.now ≡ after 58 text.now }
 {
@@ -51,14 +51,14 @@ fn after_colon(text: &str) -> &str
     }
 }
 
-/// What stands behind the first colon and a space; nothing where there is none.
+/// What stands behind the first colon and a space; nothing if there is none.
 fn behind_colon(text: &str) -> &str
     ensures { result.now ≡ behind 58 text.now }
 {
     spaced(after_colon(text))
 }
 
-/// What stands behind the first comma of a text; nothing where there is none.
+/// What stands behind the first comma of a text; nothing if there is none.
 fn after_comma(text: &str) -> &str
     ensures { result.now ≡ after 44 text.now }
 {
@@ -68,7 +68,7 @@ fn after_comma(text: &str) -> &str
     }
 }
 
-/// What stands behind the first comma and a space; nothing where there is none.
+/// What stands behind the first comma and a space; nothing if there is none.
 fn behind_comma(text: &str) -> &str
     ensures { result.now ≡ behind 44 text.now }
 {
@@ -123,7 +123,7 @@ fn name_in(alloc: Global, text: &str) -> Result<Option<Text>, OutOfMemory>
     }
 }
 
-/// What may happen, by the text that says it. `None` where it says no such thing.
+/// What may happen, by the text that says it. `None` if it says no such thing.
 #[tactic(auto, unfolding(crate::specs::Phrases::happening_in))]
 fn happening_in(alloc: Global, text: &str) -> Result<Option<Happening>, OutOfMemory>
     ensures { IfOk result (λ found. found ≡ happening_in text.now) }
@@ -215,7 +215,7 @@ fn between_in(alloc: Global, text: &str) -> Result<Option<TablePromise>, OutOfMe
     }
 }
 
-/// The promise that a phrase says. `None` where it says none.
+/// The promise that a phrase says. `None` if it says none.
 #[tactic(auto, unfolding(crate::specs::Phrases::promise_in))]
 pub(crate) fn promise_in(alloc: Global, text: &str) -> Result<Option<TablePromise>, OutOfMemory>
     ensures { IfOk result (λ found. found ≡ promise_in text.now) }

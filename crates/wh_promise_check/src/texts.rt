@@ -153,7 +153,7 @@ fn each_text(alloc: Global, list: &[PromiseFinding]) -> Result<String, AllocErro
 }
 
 /// What is found of the promises of a table, as text: a line for each, and below a broken one a
-/// scenario that breaks it. Where a shorter one may break it too, the line says so. `AllocError`
+/// scenario that breaks it. If a shorter one may break it too, the line says so. `AllocError`
 /// where there was no memory for it.
 pub fn findings_text(alloc: Global, found: &PromiseFindings) -> Result<String, AllocError>
     ensures { IfOk result (λ text. string_bytes text ≡ findings_text found.now) }
@@ -296,7 +296,7 @@ fn each_json(alloc: Global, list: &[PromiseFinding]) -> Result<String, AllocErro
 }
 
 /// What is found of the promises of a table, as a JSON value (RFC 8259): a list with an object for
-/// each, or a text that says why there is none. `AllocError` where there was no memory for it.
+/// each, or a text that says why there is none. `AllocError` if there was no memory for it.
 pub fn findings_json(alloc: Global, found: &PromiseFindings) -> Result<String, AllocError>
     ensures { IfOk result (λ text. string_bytes text ≡ findings_json found.now) }
 {

@@ -22,7 +22,7 @@ abbrev pub has_none : PromiseFindings → Bool
 has_none (found.Each list) = nat_eq (length list) 0
 has_none _ = false
 
--- the member of a table's object that says what is found; none where there is no promise
+-- the member of a table's object that says what is found; none if there is no promise
 abbrev pub members_of : PromiseFindings → List ℕ
 members_of findings = if has_none findings then [] else codes ",\"promises\":" ++ findings_json findings
 

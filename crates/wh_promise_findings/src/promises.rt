@@ -26,7 +26,7 @@ fn has_none(found: &PromiseFindings) -> bool
     }
 }
 
-/// The member of a table's object that says what is found of its promises; none where it has none.
+/// The member of a table's object that says what is found of its promises; none if it has none.
 fn members_of(alloc: Global, found: &PromiseFindings) -> Result<String, AllocError>
     ensures { IfOk result (λ text. string_bytes text ≡ members_of found.now) }
 {

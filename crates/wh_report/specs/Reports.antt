@@ -15,7 +15,7 @@ use Rattle.wh_values.specs.Texts.{value_object}
 use Rattle.wh_values.specs.declared.comparing.OtherValue.{OtherValue}
 use Rattle.wh_report.specs.declared.records.Record.{Record}
 
--- the members of a cause: `"line":LINE` and `"column":COLUMN` of a file that is no JSON, or `"workflowType":"TYPE"`
+-- the members of a cause: `"line":LINE` and `"column":COLUMN` of a file that is not JSON, or `"workflowType":"TYPE"`
 abbrev pub cause_members : Option Cause → List (List ℕ)
 cause_members None = []
 cause_members (Some (NotJson position mark)) =

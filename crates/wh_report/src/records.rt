@@ -27,7 +27,7 @@ use wh_workflow::Workflow;
 pub struct Record {
     /// Its name, and the verdict on its bytes.
     pub line: Line,
-    /// Where it is no JSON, or its workflow type, if that is not registered.
+    /// Where it is not JSON, or its workflow type, if that is not registered.
     pub cause: Option<Cause>,
     /// What its fault omits: the field that an event lacks, or what one that is not in place
     /// contradicts.
@@ -39,7 +39,7 @@ pub struct Record {
 }
 
 /// Why a file with this verdict and these bytes is named beside the report: its workflow type is
-/// not registered, or it is no JSON. `OutOfMemory` if there was no memory to see where it is none.
+/// not registered, or it is not JSON. `OutOfMemory` if there was no memory to find out.
 #[tactic(auto, using(crate::proofs::Causes::unread_is_cause, crate::proofs::Causes::unread_is_known))]
 fn cause_of<W: Workflow>(
     alloc: Global,

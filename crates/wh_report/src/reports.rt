@@ -211,7 +211,7 @@ fn write_objects<O: Write>(records: &[Record], writer: &mut O) -> io::Result<()>
 /// Writes the report of records: a line for each file, in their order, and then a line with the
 /// number of files and of good ones. As JSON (RFC 8259) each is an object, that of a file as
 /// `wh_tester::write_json_line` writes it, and that of the totals with `files` and `ok`. The object
-/// of a file has after the text of its fault: `line` and `column`, if it is no JSON;
+/// of a file has after the text of its fault: `line` and `column`, if it is not JSON;
 /// `workflowType`, if that is not registered; what its fault omits, as
 /// `wh_fault_details::DetailMembers` writes it; what is sent and what is recorded, if they differ;
 /// and `warnings`, the list of its values that differ, each with `event`, `kind`, `sent` and

@@ -162,7 +162,7 @@ fn follow(alloc: Global, bytes: &[u8]) -> Result<Option<Way>, OutOfMemory>
 ///
 /// `None` exactly when the file can't be read, an event is not in place, the workflow type is not
 /// `Table` or `Table:NAME`, no workflow task was started, or the first payload of the start's input
-/// is no table: a run takes rows only at the jobs of its workflow tasks. `OutOfMemory` where an
+/// is no table: a run takes rows only at the jobs of its workflow tasks. `OutOfMemory` if an
 /// allocation was refused.
 pub fn way_of(alloc: Global, bytes: &[u8]) -> Result<Option<Way>, OutOfMemory>
     ensures way { IfOk result (IsWayOf bytes.now) }

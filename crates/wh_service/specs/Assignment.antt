@@ -17,7 +17,7 @@ fault_of (Err fault) = Some fault
 abbrev pub assigned_as : Reading → AssignedFile
 assigned_as reading = record { name = reading.0; fault = fault_of reading.1 }
 
--- the history of a file, under the index and the name of the file, where it can be read
+-- the history of a file, under the index and the name of the file, if it can be read
 abbrev pub read_as : ℕ → List ℕ → Result (List Event) ReadFault → List Scripted
 read_as index name (Ok events) = record { index = index; name = name; events = events } ∷ []
 read_as index name (Err fault) = []

@@ -45,7 +45,7 @@ abbrev pub repeats : FileFailure → List FileFailure → ℕ
 repeats one [] = 0
 repeats one (next ∷ rest) = if is_repeat one next then repeats one rest + 1 else 0
 
--- `, and <number> more`, where there are any
+-- `, and <number> more`, if there are any
 abbrev pub more_text : ℕ → List ℕ
 more_text more = if more == 0 then [] else codes ", and " ++ (decimal more ++ codes " more")
 

@@ -10,7 +10,7 @@ use Rattle.wh_service.specs.declared.rows.FileCounts.{FileCounts}
 use Rattle.wh_service.specs.declared.rows.Row.{Row}
 use Rattle.wh_service.specs.Assignment.{source_at}
 
--- how many tasks of a file its source gave, and how they ended: none, where it has none of its name
+-- how many tasks of a file its source gave, and how they ended: none if it has none of its name
 abbrev pub counts_from : Option (ℕ × ℕ × ℕ) → FileCounts
 counts_from None = record { tasks = 0; completed = 0; failed = 0 }
 counts_from (Some tally) = record { tasks = tally.0; completed = tally.1; failed = tally.2 }
@@ -32,7 +32,7 @@ rows_from sources before (file ∷ rest) = row_from (source_at sources before) f
 abbrev pub failures_in : List ℕ → List FailedTask → List FileFailure
 failures_in name tasks = map (λ task. record { name = name; task = task }) tasks
 
--- the failed tasks of a file, as the source of its worker has them: none, where the file cannot be read
+-- the failed tasks of a file, as the source of its worker has them: none if the file cannot be read
 abbrev pub failures_by : Stage → List ℕ → Option ReadFault → List FileFailure
 failures_by source name None = failures_in name (failed_in source name)
 failures_by source name (Some fault) = []

@@ -124,7 +124,7 @@ is_good_outcome (Err fault) = false
 abbrev pub are_good : List Row → Bool
 are_good rows = list_all (λ row. is_good_outcome row.outcome) rows
 
--- 0 where no worker has a fault, no task failed and each file was read, and else 1
+-- 0 if no worker has a fault, no task failed and each file was read, and else 1
 abbrev pub status_of : Bool → List Row → Totals → ℕ
 status_of faultless rows totals = if faultless && (eqb totals.failed 0 && are_good rows) then 0 else 1
 

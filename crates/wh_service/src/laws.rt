@@ -13,7 +13,7 @@ pub fn each_history_goes_to_one_worker()
 {}
 
 /// The report has a row for each file, in their order, by the source of the worker whose turn the
-/// file is. A failed task is reported exactly where that source has it.
+/// file is. A failed task is reported exactly when that source has it.
 pub fn each_row_is_of_its_file()
     ensures rows { EachRowIsOfItsFile }
     ensures count { AsManyRowsAsFiles }

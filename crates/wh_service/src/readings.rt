@@ -163,7 +163,7 @@ fn with_fault<W: Workflow>(
     }
 }
 
-/// What is reported of a file that can't be read: where it is no JSON.
+/// What is reported of a file that can't be read: where it is not JSON.
 #[tactic(auto, using(wh_file_faults::proofs::Faults::of_json))]
 fn unread_fault<W: Workflow>(
     alloc: Global,

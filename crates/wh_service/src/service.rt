@@ -78,7 +78,7 @@ where
     gather(alloc, assigned, end)
 }
 
-/// The status: 0 where each file was read, no task failed and no worker has a fault, and else 1.
+/// The status: 0 if each file was read, no task failed and no worker has a fault, and else 1.
 fn status_of(service: &Service) -> u8
     ensures { result ≡ status_of service.now.faultless service.now.rows.items service.now.totals }
 {
@@ -92,7 +92,7 @@ fn status_of(service: &Service) -> u8
 /// What is reported of a service beside its report.
 #[derive(Drop)]
 pub struct ServiceEnd {
-    /// The status: 0 where each file was read, no task failed and no worker has a fault, else 1.
+    /// The status: 0 if each file was read, no task failed and no worker has a fault, else 1.
     pub status: u8,
     /// The failed tasks, in the order of the files and, within a file, of its tasks.
     pub failures: Vec<FileFailure>,
@@ -103,7 +103,7 @@ pub struct ServiceEnd {
     /// Whether no worker has a fault: no call of its source failed. After a fault a worker goes on,
     /// so all tasks may be completed beside one.
     pub faultless: bool,
-    /// Where files are no JSON and which workflow types are not registered, in the order of the
+    /// Where files are not JSON and which workflow types are not registered, in the order of the
     /// files.
     pub file_faults: Vec<FileFault>,
 }

@@ -33,7 +33,7 @@ uncompared_lines true name =
     named_line (codes "the last task of a recorded history is not compared with its record; replay does that") name
 uncompared_lines false name = []
 
--- what is reported of a service beside its report: the files that are no JSON, the failed tasks, a fault of a worker,
+-- what is reported of a service beside its report: the files that are not JSON, the failed tasks, a fault of a worker,
 -- and whether a last task was not compared
 abbrev pub service_lines : ServiceEnd → List ℕ → List ℕ
 service_lines end name =

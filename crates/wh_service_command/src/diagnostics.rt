@@ -93,7 +93,7 @@ fn write_uncompared<E: Write>(uncompared: bool, name: &str, writer: &mut E) -> i
     )
 }
 
-/// Writes where files are no JSON and why tasks failed, and then a line if a worker has a fault,
+/// Writes where files are not JSON and why tasks failed, and then a line if a worker has a fault,
 /// and one if `serve` did not compare all that is recorded.
 fn write_service<E: Write>(end: ServiceEnd, name: &str, writer: &mut E) -> io::Result<()>
     ensures { OnOk result (Appends (E.contents writer.old) (E.contents writer.new) (service_lines end name.now)) }

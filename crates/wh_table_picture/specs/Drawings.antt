@@ -29,12 +29,12 @@ listed (Some d) = or_none (list_in d)
 abbrev pub row_values : Data → List Data
 row_values d = listed (field (codes "rows") (Some d))
 
--- the title of a text, where it is JSON
+-- the title of a text, if it is JSON
 abbrev pub title_by : Result Data ReadFault → List ℕ
 title_by (Ok d) = title_of d
 title_by (Err fault) = []
 
--- the rows of a table, of which a text has the words, where it is JSON
+-- the rows of a table, of which a text has the words, if it is JSON
 abbrev pub lines_by : List Row → Result Data ReadFault → List Line
 lines_by rows (Ok d) = lines_of rows (row_values d)
 lines_by rows (Err fault) = []

@@ -26,7 +26,7 @@ mark_class Last = codes "name last"
 abbrev pub name_class : Bool → StateMark → List ℕ
 name_class begins mark = if begins then mark_class mark else codes "name again"
 
--- how the box of the end stands, also where that is the last
+-- how the box of the end stands, even if that is the last
 abbrev pub end_class : Bool → List ℕ
 end_class ended = if ended then codes "end last" else codes "end"
 

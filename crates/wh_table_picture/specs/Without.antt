@@ -7,7 +7,7 @@ abbrev pub letter_for : List ℕ → List ℕ
 letter_for [] = []
 letter_for (b ∷ bs) = codes "x"
 
--- a row without its words: a letter for those that are left out where there are none
+-- a row without its words: a letter for those that are left out if there are none
 abbrev pub without_words : Line → Line
 without_words line = record line {
   state = [];

@@ -42,7 +42,7 @@ fn joined(alloc: Global, values: &[Value]) -> Result<String, AllocError>
     Ok(text)
 }
 
-/// The words of a value: its texts where it is a list, or the text that it is.
+/// The words of a value: its texts if it is a list, or the text that it is.
 fn listed_words(alloc: Global, value: &Value) -> Result<String, AllocError>
     ensures { IfOk result (λ text. string_bytes text ≡ listed_words (view value.now)) }
 {
@@ -52,7 +52,7 @@ fn listed_words(alloc: Global, value: &Value) -> Result<String, AllocError>
     }
 }
 
-/// The words of the member of a row at an index. They are empty where it is left out.
+/// The words of the member of a row at an index. They are empty if it is left out.
 pub(crate) fn words_at(alloc: Global, row: &Value, index: usize) -> Result<String, AllocError>
     ensures { IfOk result (λ text. string_bytes text ≡ words_at index (view row.now)) }
 {

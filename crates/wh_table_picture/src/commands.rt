@@ -14,7 +14,7 @@ use wh_file_faults::CommandFault;
 use wh_table_check::{MoreFindings, TableFile};
 
 /// Checks the table that a file is, with what `M` decides of it, writes its page as HTML, and gives
-/// what the page shows. Nothing is written where the answer is `OutOfMemory`.
+/// what the page shows. Nothing is written if the answer is `OutOfMemory`.
 pub fn picture_command<M: MoreFindings, O: Write>(
     alloc: Global,
     file: &TableFile,

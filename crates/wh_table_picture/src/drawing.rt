@@ -23,7 +23,7 @@ pub struct Drawing {
     pub checked: Checked,
     /// The text of its member `title`, if it has one.
     pub title: Text,
-    /// Its rows. There are none where it breaks a rule.
+    /// Its rows. There are none if it breaks a rule.
     pub lines: Items<Line>,
 }
 
@@ -78,7 +78,7 @@ pub(crate) fn table_words(alloc: Global, bytes: &[u8]) -> Result<Words, OutOfMem
     }
 }
 
-/// What the page of the table in a file shows, with what `M` decides of it. `OutOfMemory` where an
+/// What the page of the table in a file shows, with what `M` decides of it. `OutOfMemory` if an
 /// allocation was refused.
 pub fn drawing_of<M: MoreFindings>(alloc: Global, file: &TableFile) -> Result<Drawing, OutOfMemory>
     ensures drawing { IfOk result (λ drawing. drawing ≡ drawing_of file.now drawing.checked) }

@@ -39,12 +39,12 @@ pub struct Line {
     pub conditions: Text,
     /// Those of its commands.
     pub gives: Text,
-    /// The name of its next state, which is empty where it stays.
+    /// The name of its next state, which is empty if it stays.
     pub next: Text,
     /// The words of its marks.
     pub marks: Text,
-    /// The place of the first row of the state that it leads to, or the number of rows where it
-    /// closes the run. `None` where it stays in its state.
+    /// The place of the first row of the state that it leads to, or the number of rows if it
+    /// closes the run. `None` if it stays in its state.
     pub way: Option<usize>,
     /// Whether the row is marked as one that was taken.
     pub taken: bool,
@@ -64,7 +64,7 @@ pub(crate) fn has_row(rows: &[usize], number: usize) -> bool
     false
 }
 
-/// The place of the first row for the state, or the number of rows where there is none.
+/// The place of the first row for the state, or the number of rows if there is none.
 fn first_of(name: &Text, rows: &[OwnedRow]) -> usize
     ensures { result ≡ first_of name.now rows.now }
 {

@@ -80,8 +80,8 @@ fn marked(alloc: Global, marks: &Marks, lines: Vec<Line>) -> Result<Items<Line>,
     Ok(Items::new(all))
 }
 
-/// The rows of the table that a JSON text is, with their marks; none where it is no table.
-/// `OutOfMemory` where an allocation was refused.
+/// The rows of the table that a JSON text is, with their marks; none if it is no table.
+/// `OutOfMemory` if an allocation was refused.
 pub fn marked_table(alloc: Global, bytes: &[u8], marks: &Marks) -> Result<Items<Line>, OutOfMemory>
     ensures { IfOk result (λ lines. lines ≡ marked marks.now (table_lines bytes.now)) }
 {

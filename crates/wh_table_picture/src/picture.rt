@@ -50,7 +50,7 @@ fn name_class(begins: bool, mark: StateMark) -> &'static str
     }
 }
 
-/// How the box of the end stands, also where that is the last.
+/// How the box of the end stands, even if that is the last.
 fn end_class(ended: bool) -> &'static str
     ensures { result.now ≡ end_class ended }
 {

@@ -28,7 +28,7 @@ row_from number [] state job = None
 row_from number (row ∷ rest) state job =
     if fits row state job then Some number else row_from (number + 1) rest state job
 
--- the number of the row that counts at a job, counted from 1; None where no row fits
+-- the number of the row that counts at a job, counted from 1; None if no row fits
 abbrev pub row_taken : Definition → RowsState → Job → Option ℕ
 row_taken table state job = row_from 1 table.rows (seen_by table state job) job
 
@@ -59,7 +59,7 @@ abbrev pub IsKeptBefore : ℕ → Definition → Promise → Type 0
 IsKeptBefore many table promise =
     (list : List Job) → IsTrue (begins list) → length list < many → KeptIn promise (course table (initial table) list)
 
--- a path that breaks the promise, and is a shortest one where that is said
+-- a path that breaks the promise, and is a shortest one if that is said
 abbrev pub IsBreach : Definition → Promise → Breach → Type 0
 IsBreach table promise breach =
     IsWay table promise breach.way.items

@@ -60,7 +60,7 @@ pub(crate) fn are_cuts(bounds: Counts, tops: Counts) -> bool
     (tops.a <= bounds.a && tops.b <= bounds.b) && (tops.c <= bounds.c && tops.d <= bounds.d)
 }
 
-/// The counters with the number that a condition asks for, where that is greater.
+/// The counters with the number that a condition asks for, if that is greater.
 fn asked_by(condition: Condition, tops: Counts) -> Counts {
     let (counter, bound) = match condition {
         Condition::Below(counter, bound) => (counter, bound),

@@ -94,7 +94,7 @@ fn words_of(
     Ok(words)
 }
 
-/// The jobs of these words. `None` where some are no job.
+/// The jobs of these words. `None` if some are no job.
 fn jobs_of(alloc: Global, words: &[Text]) -> Result<Option<Vec<Job>>, OutOfMemory>
     ensures { IfOk result (λ found. IfSome found (λ jobs.
         map job_read words.now ≡ map (λ job. Some job) jobs.items)) }
@@ -196,7 +196,7 @@ fn breach_of(
     Ok(Breach { way, is_shortest })
 }
 
-/// The verdict where a search found a path.
+/// The verdict if a search found a path.
 fn by_way(
     alloc: Global,
     table: &OwnedTable,

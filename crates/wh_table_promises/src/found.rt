@@ -19,7 +19,7 @@ pub const MOST_CONFIGURATIONS: usize = 200_000;
 pub(crate) struct Found {
     /// The configurations.
     pub configs: Vec<Config>,
-    /// One more than the number of a configuration, or 0 where the slot is empty.
+    /// One more than the number of a configuration, or 0 if the slot is empty.
     pub slots: Vec<usize>,
 }
 

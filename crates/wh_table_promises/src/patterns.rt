@@ -27,7 +27,7 @@ fn number_of(pattern: &JobPattern<Text>) -> u8
     }
 }
 
-/// The text of a pattern, empty where it has none.
+/// The text of a pattern, empty if it has none.
 pub(crate) fn text_of(pattern: &JobPattern<Text>) -> &str
     ensures { result.now ≡ text_of pattern.now }
 {

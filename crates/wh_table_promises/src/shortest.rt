@@ -20,7 +20,7 @@ fn add_each(found: &mut Found, list: &[Config]) -> Result<(), OutOfMemory>
     Ok(())
 }
 
-/// Adds where a job may lead from a configuration. `false` where that spends more than the budget,
+/// Adds where a job may lead from a configuration. `false` if that spends more than the budget,
 /// or too many are found.
 fn expand(
     alloc: Global,
@@ -41,7 +41,7 @@ fn expand(
     Ok(true)
 }
 
-/// Adds where a job may lead from each of the configurations of these numbers. `false` where one
+/// Adds where a job may lead from each of the configurations of these numbers. `false` if one
 /// spends more than the budget, or too many are found.
 fn expand_each(
     alloc: Global,

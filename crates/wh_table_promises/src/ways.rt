@@ -26,7 +26,7 @@ pub struct WayStep {
     pub job: Text,
     /// The commands, as scenarios write them.
     pub gives: Text,
-    /// The number of the row that counts, counted from 1. `None` where no row fits.
+    /// The number of the row that counts, counted from 1. `None` if no row fits.
     pub row: Option<usize>,
 }
 
@@ -258,7 +258,7 @@ fn follow_job(
     Ok(Given { text, row })
 }
 
-/// Follows jobs, and says what each is given. `None` where the watch keeps to the budget, or has
+/// Follows jobs, and says what each is given. `None` if the watch keeps to the budget, or has
 /// spent more before the last job.
 pub(crate) fn follow_jobs(
     alloc: Global,
