@@ -1,6 +1,6 @@
 -- What commands of files wrote and reported, one step after the other.
-use Rattle.std.proofs.Common.{◌≡◌, ◌∙◌, ℕ, List, [], ◌∷◌, Some, refl, sym, ap, subst}
-use Rattle.std.specs.Prelude.{Bool, false, Option, Result, Ok, Err, IfOk, OnOk, string_bytes}
+use Rattle.std.proofs.Common.{◌≡◌, ◌∙◌, inr, ℕ, List, [], ◌∷◌, Some, refl, sym, ap, subst}
+use Rattle.std.specs.Prelude.{Bool, false, Option, Result, Ok, Err, IfErr, IfOk, OnOk, string_bytes}
 use Rattle.std.specs.Io.KnownBytes.{Keeps}
 use Rattle.wh_console.proofs.Printing.{printed_kept, quiet_twice, written_kept}
 use Rattle.wh_console.specs.Consoles.{ConsoleView, IsQuiet, Printed, Reported}
@@ -13,7 +13,7 @@ use Rattle.wh_file_commands.specs.Explanations.{HasExplained, HasExplainedInput,
 use Rattle.wh_file_commands.specs.Pages.{HasPaged, HasPagedInput, HasPagedPath}
 use Rattle.wh_file_commands.specs.Queries.{HasQueried, HasQueriedInput, HasQueriedPath}
 use Rattle.wh_file_commands.specs.Batches.{faulty_of}
-use Rattle.wh_file_commands.specs.Replays.{HasNotReplayed, HasReplayed, HasReplayedPaths, HasReported}
+use Rattle.wh_file_commands.specs.Replays.{HasNotReplayed, HasNotReplayedPaths, HasReplayed, HasReplayedPaths, HasReported}
 use Rattle.wh_file_commands.proofs.Batched.{as_many}
 use Rattle.wh_file_commands.specs.Views.{HasViewed, HasViewedInput, HasViewedPath}
 use Rattle.wh_file_faults.specs.Faults.{File}
@@ -195,6 +195,23 @@ replayed_paths program types first more format required strict left_out lacks pr
           (subst (λ l. HasReplayed IsReadFrom strict program types inputs format mode l between new status) same h);
     }
 replayed_paths program types first more format required strict left_out lacks progress link mode inputs old between new (Err failure) listed same shown h = tt
+
+-- or the replay stopped after they were listed
+pub stopped_at_paths : {S : Type 0} (program : Program S) (first : List ℕ) (more : List (List ℕ)) (strict left_out progress : Bool) (link : Option (List ℕ)) (mode : ProgressMode) (inputs : List Input) (old between new : ConsoleView) (answer : Result ℕ Failure)
+    → AreListed (is_by_path more) (first ∷ more) inputs left_out old between
+    → mode ≡ mode_by link progress
+    → IfErr answer (HasNotReplayed IsReadFrom strict program inputs mode between new)
+    → IfErr answer (HasNotReplayedPaths program first more strict progress old new)
+stopped_at_paths program first more strict left_out progress link mode inputs old between new (Ok status) listed shown h = tt
+stopped_at_paths program first more strict left_out progress link mode inputs old between new (Err failure) listed shown h =
+    inr (record {
+      link = link;
+      inputs = inputs;
+      left_out = left_out;
+      between = between;
+      listed = listed;
+      stopped = subst (λ m. HasNotReplayed IsReadFrom strict program inputs m between new failure) shown h;
+    })
 
 -- the replay stopped, and nothing more came of it
 pub not_replayed : {S : Type 0} (gives : Gives) (strict : Bool) (program : Program S) (inputs : List Input) (mode : ProgressMode) (old new : ConsoleView) (failure : Failure)

@@ -1,5 +1,5 @@
 -- What replay of files writes and reports.
-use Rattle.std.specs.Prelude.{◌≡◌, ◌≢◌, ℕ, List, ◌∷◌, Bool, Option}
+use Rattle.std.specs.Prelude.{◌≡◌, ◌≢◌, ◌⊎◌, ℕ, List, ◌∷◌, Bool, Option}
 use Rattle.std.specs.List.{list_any}
 use Rattle.wh_console.specs.Consoles.{ConsoleView, IsQuiet, Printed, Reported}
 use Rattle.wh_console.specs.declared.format.Format.{Format}
@@ -10,7 +10,7 @@ use Rattle.wh_diagnostics.specs.declared.failures.Failure.TheVariants.{Output}
 use Rattle.wh_files.specs.Inputs.{IsReadFrom}
 use Rattle.wh_files.specs.declared.Input.{Input}
 use Rattle.wh_file_commands.specs.Batches.{faulty_of}
-use Rattle.wh_inputs.specs.Listings.{AreListed, is_by_path, lacks_files}
+use Rattle.wh_inputs.specs.Listings.{AreListed, AreUnlisted, is_by_path, lacks_files}
 use Rattle.wh_inputs.specs.Readings.{Gives, IsReadAs}
 use Rattle.wh_known_types.specs.Types.{known_types_text, lacks_code}
 use Rattle.wh_progress.specs.Batches.{HasStoppedWhole, reports_of}
@@ -63,3 +63,20 @@ pub record HasReplayedPaths {S : Type 0} (program : Program S) (types first : Li
   pub listed : AreListed (is_by_path more) (first ∷ more) inputs left_out old between
   pub replayed : HasReplayed IsReadFrom strict program types inputs format (mode_by link progress)
       (lacks_files left_out required inputs) between new status
+
+-- what paths name was listed, and there is no report of its replay, or it can't be written
+pub record HasStoppedAtPaths {S : Type 0} (program : Program S) (first : List ℕ) (more : List (List ℕ))
+    (strict progress : Bool) (old new : ConsoleView) (failure : Failure) : Type 0 where
+  pub link : Option (List ℕ)
+  pub inputs : List Input
+  pub left_out : Bool
+  pub between : ConsoleView
+  pub listed : AreListed (is_by_path more) (first ∷ more) inputs left_out old between
+  pub stopped : HasNotReplayed IsReadFrom strict program inputs (mode_by link progress) between new failure
+
+-- why what paths name was not replayed: one of them can't be listed, or the replay stopped
+abbrev pub HasNotReplayedPaths : {S : Type 0} → Program S → (first : List ℕ) → (more : List (List ℕ))
+    → (strict progress : Bool) → (old new : ConsoleView) → Failure → Type 0
+HasNotReplayedPaths program first more strict progress old new failure =
+    AreUnlisted (is_by_path more) (first ∷ more) old new failure
+    ⊎ HasStoppedAtPaths program first more strict progress old new failure

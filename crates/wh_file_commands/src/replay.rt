@@ -3,7 +3,7 @@
 ghost use Rattle.std.specs.Prelude.{◌≡◌, IfErr, IfOk, OnOk};
 ghost use Rattle.std.specs.List.{list_any};
 ghost use Rattle.wh_console.specs.Consoles.{IsQuiet, Printed};
-ghost use Rattle.wh_file_commands.specs.Replays.{HasNotReplayed, HasReplayed};
+ghost use Rattle.wh_file_commands.specs.Replays.{HasNotReplayed, HasNotReplayedPaths, HasReplayed};
 ghost use Rattle.wh_file_commands.specs.Replays.{HasReplayedPaths, HasReported};
 ghost use Rattle.wh_known_types.specs.Types.{lacks_code};
 ghost use Rattle.wh_report.specs.Reports.{records_status, report_as};
@@ -122,6 +122,8 @@ where
     R::Dir: Send,
     ensures replayed { IfOk result (HasReplayedPaths W.program types.now first more.items format require_files
         strict progress console.old console.new) }
+    ensures stopped { IfErr result
+        (HasNotReplayedPaths W.program first more.items strict progress console.old console.new) }
 {
     let listed = all_inputs(rt, first, more, console)?;
     let lacks = listed.lacks_files(require_files);

@@ -53,3 +53,20 @@ abbrev pub IsUnreadAt : (path : List ℕ) → Failure → Type 0
 IsUnreadAt path (Unreadable dir entry reason) = (dir ≡ path) × (entry ≡ None)
 IsUnreadAt path OutOfMemory = Unit {0}
 IsUnreadAt path _ = ⊥
+
+-- nothing can be read at the first of these paths, or there was no memory
+abbrev pub IsUnreadFirst : List (List ℕ) → Failure → Type 0
+IsUnreadFirst [] failure = failure ≡ OutOfMemory
+IsUnreadFirst (path ∷ paths) failure = IsUnreadAt path failure
+
+-- paths were listed up to one at which nothing can be read, or until there was no memory: what is reported of those
+-- before it was reported in their order, and nothing more
+pub record AreUnlisted (by_path : Bool) (paths : List (List ℕ)) (old new : ConsoleView)
+    (failure : Failure) : Type 0 where
+  pub front : List (List ℕ)
+  pub back : List (List ℕ)
+  pub parts : paths ≡ front ++ back
+  pub inputs : List Input
+  pub left_out : Bool
+  pub listed : AreListed by_path front inputs left_out old new
+  pub unread : IsUnreadFirst back failure

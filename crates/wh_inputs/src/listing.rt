@@ -3,7 +3,7 @@
 ghost use Rattle.std.specs.Prelude.{◌≡◌, ◌==◌, ◌||◌, ◌∷◌, IfErr, IfOk, false, length, not};
 ghost use Rattle.wh_console.specs.Consoles.{Reported};
 ghost use Rattle.wh_files.specs.Inputs.{IsCalled, IsOf, IsSingle};
-ghost use Rattle.wh_inputs.specs.Listings.{AreListed, IsListed, IsUnreadAt, is_by_path};
+ghost use Rattle.wh_inputs.specs.Listings.{AreListed, AreUnlisted, IsListed, IsUnreadAt, is_by_path};
 ghost use Rattle.wh_inputs.specs.Listings.{lacks_files, listing_lines};
 
 use std::io;
@@ -92,7 +92,7 @@ fn is_either(first: bool, second: bool) -> bool
 
 /// Returns what is to be read at paths, in their order. If there is one path alone, files are
 /// called without their folders. `Unreadable` if nothing can be read at one of them; what is left
-/// out of those before it has been reported then.
+/// out of those before it has been reported then, and nothing more, as with `OutOfMemory`.
 pub fn all_inputs<R: Files + io::Input + AllocGlobal + Clone + Drop, O: Write, E: Write>(
     rt: &R,
     first: Text,
@@ -101,6 +101,8 @@ pub fn all_inputs<R: Files + io::Input + AllocGlobal + Clone + Drop, O: Write, E
 ) -> Result<Listed, Failure>
     ensures listed { IfOk result (λ listed. AreListed (is_by_path more.items) (first ∷ more.items)
         listed.inputs.items listed.left_out console.old console.new) }
+    ensures refused { IfErr result
+        (AreUnlisted (is_by_path more.items) (first ∷ more.items) console.old console.new) }
 {
     let by_path = !more.is_empty();
     let own = inputs_of(rt, first, by_path, console)?;
