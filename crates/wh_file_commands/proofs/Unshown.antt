@@ -3,7 +3,7 @@ use Rattle.std.proofs.Common.{◌≡◌, ℕ, List, ap, inr, refl, sym, subst}
 use Rattle.std.specs.Prelude.{◌≢◌, false, Option, Some, None, Result, Ok, Err, IfErr, string_bytes}
 use Rattle.wh_diagnostics.specs.declared.failures.Failure.{Failure}
 use Rattle.wh_diagnostics.specs.declared.failures.Failure.TheVariants.{BadLine, BadArguments, FewSlots, BadInput, Unreadable, NotJson, NotViewed, NotText, BadPolicies, Output, OutOfMemory}
-use Rattle.wh_file_commands.specs.Refusals.{IsUnshown, IsUnshownFile, IsUnshownInput, IsUnshownPath, IsUnviewed, IsUnviewedJson}
+use Rattle.wh_file_commands.specs.Refusals.{IsUnshown, IsUnshownInput, IsUnshownPath, IsUnviewed, IsUnviewedJson}
 use Rattle.wh_file_faults.proofs.Unread.{valued}
 use Rattle.wh_file_faults.specs.Faults.{File}
 use Rattle.wh_files.specs.Inputs.{IsCalled, IsOf, IsReadFrom, IsSingle}

@@ -2,7 +2,6 @@ use Rattle.std.proofs.Common.{◌∙◌, ap, subst}
 use Rattle.std.specs.List.{list_any}
 use Rattle.wh_console.specs.Consoles.{Reported}
 use Rattle.wh_known_types.specs.Types.{known_types_text, lacks_code}
-use Rattle.wh_inputs.specs.Readings.{IsReadAs}
 use Rattle.wh_file_commands.proofs.Steps.{not_replayed, replayed_cut}
 use Rattle.wh_file_commands.proofs.replay.replay.Goals as goal
 
