@@ -1,6 +1,6 @@
 -- What stands on a console if a command of a file has no full report.
-use Rattle.std.proofs.Common.{◌≡◌, ◌∙◌, List, ℕ, refl, sym, subst}
-use Rattle.std.specs.Prelude.{◌≢◌, Option, Result, Ok, Err, IfErr}
+use Rattle.std.proofs.Common.{◌≡◌, ◌∙◌, ℕ, refl, sym, subst}
+use Rattle.std.specs.Prelude.{Result, Ok, Err, IfErr}
 use Rattle.std.specs.Io.KnownBytes.{Keeps}
 use Rattle.wh_console.proofs.Printing.{quiet_twice}
 use Rattle.wh_console.specs.Consoles.{ConsoleView, IsQuiet}

@@ -1,17 +1,13 @@
 -- Why nothing is shown of a file.
-use Rattle.std.proofs.Common.{◌≡◌, ℕ, List, ap, inl, inr, refl, sym, subst}
+use Rattle.std.proofs.Common.{◌≡◌, ℕ, List, ap, inr, refl, sym, subst}
 use Rattle.std.specs.Prelude.{◌≢◌, false, Option, Some, None, Result, Ok, Err, IfErr, string_bytes}
-use Rattle.std.specs.Result.{IsErrAnd}
-use Rattle.wh_diagnostics.specs.Failures.{input_failure}
 use Rattle.wh_diagnostics.specs.declared.failures.Failure.{Failure}
 use Rattle.wh_diagnostics.specs.declared.failures.Failure.TheVariants.{BadLine, BadArguments, FewSlots, BadInput, Unreadable, NotJson, NotViewed, NotText, BadPolicies, Output, OutOfMemory}
-use Rattle.wh_file_commands.specs.Refusals.{IsUnread, IsUnshown, IsUnshownFile, IsUnshownInput, IsUnshownPath, IsUnviewed, IsUnviewedJson}
+use Rattle.wh_file_commands.specs.Refusals.{IsUnshown, IsUnshownInput, IsUnshownPath, IsUnviewed, IsUnviewedJson}
 use Rattle.wh_file_faults.proofs.Unread.{valued}
 use Rattle.wh_file_faults.specs.Faults.{File}
 use Rattle.wh_files.specs.Inputs.{IsCalled, IsOf, IsReadFrom, IsSingle}
 use Rattle.wh_files.specs.declared.Input.{Input}
-use Rattle.wh_files.specs.declared.InputFault.{InputFault}
-use Rattle.wh_files.specs.declared.InputFault.TheVariants as inputs
 use Rattle.wh_inputs.specs.Readings.{Gives, IsReadAs}
 use Rattle.wh_json.specs.Events.{document_within, events_in}
 use Rattle.wh_json.specs.Outcome.{◌>>=◌, or_fault}
@@ -66,40 +62,7 @@ unviewed_shown name bytes (reads.BadPayload at) failure is h = other_unviewed na
 unviewed_shown name bytes (reads.ShorthandPayload at) failure is h = other_unviewed name bytes (reads.ShorthandPayload at) failure (λ e. absurd cc) (is (λ e. absurd cc)) h
 unviewed_shown name bytes (reads.UnsupportedMarker at kind) failure is h = other_unviewed name bytes (reads.UnsupportedMarker at kind) failure (λ e. absurd cc) (is (λ e. absurd cc)) h
 
--- a fault that is neither of the two is told as it is
-pub unviewed_other : (name bytes : List ℕ) (fault : ReadFault) → fault ≢ reads.OutOfMemory → fault ≢ reads.BadJson
-    → IsUnviewed name bytes fault (NotViewed name fault)
-unviewed_other name bytes reads.BadJson memory json = absurd (json refl)
-unviewed_other name bytes reads.OutOfMemory memory json = absurd (memory refl)
-unviewed_other name bytes reads.TooLong memory json = refl
-unviewed_other name bytes reads.NoEvents memory json = refl
-unviewed_other name bytes (reads.BadNumber at) memory json = refl
-unviewed_other name bytes (reads.OutOfOrder at) memory json = refl
-unviewed_other name bytes (reads.UnsupportedEvent at kind) memory json = refl
-unviewed_other name bytes (reads.MissingField at) memory json = refl
-unviewed_other name bytes (reads.BadTime at) memory json = refl
-unviewed_other name bytes (reads.BadPayload at) memory json = refl
-unviewed_other name bytes (reads.ShorthandPayload at) memory json = refl
-unviewed_other name bytes (reads.UnsupportedMarker at kind) memory json = refl
-
--- what can't be written is not shown
-pub output_shown : (name bytes : List ℕ) (answer : Result ℕ Failure) → IfErr answer (λ failure. failure ≡ Output)
-    → IfErr answer (IsUnshown name bytes)
-output_shown name bytes (Ok status) is = tt
-output_shown name bytes (Err failure) is = subst (IsUnshown name bytes) (sym is) tt
-
--- why an input can't be read
-pub input_unread : (fault : InputFault) → IsUnread (input_failure fault)
-input_unread (inputs.Unreadable path entry reason) = tt
-input_unread inputs.OutOfMemory = tt
-
--- nothing is shown of an input that can't be read
-pub input_unshown : {T : Type 0} (gives : Gives) (input : Input) (fault : InputFault) (answer : Result T Failure)
-    → IsErrAnd answer (λ failure. failure ≡ input_failure fault) → IfErr answer (IsUnshownInput gives input)
-input_unshown gives input fault (Ok value) is = tt
-input_unshown gives input fault (Err failure) is = inl (subst IsUnread (sym is) (input_unread fault))
-
--- nor of one that was read as a file of which nothing is shown
+-- nothing is shown of an input that was read as a file of which nothing is shown
 pub file_unshown : (gives : Gives) (input : Input) (file : File) (seen : List ℕ) (answer : Result ℕ Failure)
     → IsReadAs gives input file → seen ≡ file.1.items → IfErr answer (IsUnshown (string_bytes file.0) seen)
     → IfErr answer (IsUnshownInput gives input)

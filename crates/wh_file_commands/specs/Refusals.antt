@@ -20,6 +20,13 @@ pub record IsRefused (old new : ConsoleView) (failure : Failure) : Type 0 where
   pub quiet : IsQuiet old new
   pub unwritten : failure ≢ Output → Keeps old.output new.output
 
+-- why there is no full report of inputs: one can't be read, the report can't be written, or there was no memory
+abbrev pub IsUnreported : Failure → Type 0
+IsUnreported (Unreadable dir entry reason) = Unit {0}
+IsUnreported Output = Unit {0}
+IsUnreported OutOfMemory = Unit {0}
+IsUnreported _ = ⊥
+
 -- an argument of a query is no JSON, or there was no memory to see that
 abbrev pub IsBadQuery : Failure → Type 0
 IsBadQuery failure = (failure ≡ BadInput) ⊎ (failure ≡ OutOfMemory)

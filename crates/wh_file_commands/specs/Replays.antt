@@ -10,6 +10,7 @@ use Rattle.wh_diagnostics.specs.declared.failures.Failure.TheVariants.{Output}
 use Rattle.wh_files.specs.Inputs.{IsReadFrom}
 use Rattle.wh_files.specs.declared.Input.{Input}
 use Rattle.wh_file_commands.specs.Batches.{faulty_of}
+use Rattle.wh_file_commands.specs.Refusals.{IsUnreported}
 use Rattle.wh_inputs.specs.Listings.{AreListed, AreUnlisted, is_by_path, lacks_files}
 use Rattle.wh_inputs.specs.Readings.{Gives, IsReadAs}
 use Rattle.wh_known_types.specs.Types.{known_types_text, lacks_code}
@@ -51,6 +52,7 @@ pub record HasNotReplayed {S : Type 0} (gives : Gives) (strict : Bool) (program 
   pub stopped : HasStoppedWhole (AreRecordsOf strict program (IsReadAs gives)) faulty_of mode inputs old between
   pub quiet : IsQuiet between new
   pub unwritten : failure ≢ Output → new.output ≡ between.output
+  pub why : IsUnreported failure
 
 -- what paths name was replayed, and progress was reported as some link of the standard error and the option for it have
 -- it

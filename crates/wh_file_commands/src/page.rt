@@ -88,8 +88,12 @@ fn page_input<W: Workflow, R: InputReader + AllocGlobal, O: Write, E: Write>(
 
 /// Writes a page of the history at a path as HTML: with the verdict of its replay, whose status it
 /// returns, or with nothing replayed if only what is recorded is to be shown, and then the status
-/// is 0. `NotJson` or `NotViewed` if it has no list of events. After a failure nothing was
-/// reported, and nothing was written unless it is `Output`.
+/// is 0.
+///
+/// `Unreadable` if it can't be read. `NotJson` if it is not JSON, and `NotViewed` if it has no list
+/// of events for another reason. `Output` if the page can't be written. Other than `OutOfMemory`
+/// there is no failure but these. After a failure nothing was reported, and nothing was written
+/// unless it is `Output`.
 pub fn page_path<W: Workflow, R: Runtime + AllocGlobal, O: Write, E: Write>(
     rt: &R,
     path: Text,

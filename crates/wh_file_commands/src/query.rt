@@ -97,8 +97,11 @@ fn query_asked(alloc: Global, query_type: Text, words: Vec<Text>) -> Result<Quer
 
 /// Queries the history at a path with words as the arguments, writes what came of that, and once it
 /// is out, reports where the file is no JSON or that its workflow type is not registered, and then
-/// `types`, which are, unless they are empty. `BadInput` if a word is no JSON; nothing is read
-/// then. After a failure nothing was reported, and nothing was written unless it is `Output`.
+/// `types`, which are, unless they are empty.
+///
+/// `BadInput` if a word is no JSON; nothing is read then. `Unreadable` if the history can't be read,
+/// and `Output` if the answer can't be written. Other than `OutOfMemory` there is no failure but
+/// these. After a failure nothing was reported, and nothing was written unless it is `Output`.
 pub fn query_path<W: Queryable, R: Runtime + AllocGlobal, O: Write, E: Write>(
     rt: &R,
     path: Text,

@@ -99,8 +99,8 @@ fn replay<W: Workflow + Send, R: InputReader + AllocGlobal + Threads + Sync, O: 
 /// lacking, and else 3 if such values differ, and 0 if none do.
 ///
 /// `Unreadable` if a path or one of the files can't be read; nothing is written then, as with
-/// `OutOfMemory`. `Output` if the report can't be written. After a failure nothing was reported but
-/// what is left out and progress.
+/// `OutOfMemory`. `Output` if the report can't be written. There is no other failure. After a
+/// failure nothing was reported but what is left out and progress.
 pub fn replay_paths<
     W: Workflow + Send,
     R: Runtime + AllocGlobal + Threads + Sync,

@@ -109,8 +109,12 @@ fn view_input<R: InputReader + AllocGlobal, O: Write, E: Write>(
 }
 
 /// Shows what is recorded in the history at a path: the tasks that are selected, with nothing
-/// replayed. The status is 0. `NotJson` or `NotViewed` if it has no list of events. After a failure
-/// nothing was reported, and nothing was written unless it is `Output`.
+/// replayed. The status is 0.
+///
+/// `Unreadable` if it can't be read. `NotJson` if it is not JSON, and `NotViewed` if it has no list
+/// of events for another reason. `Output` if the text can't be written. Other than `OutOfMemory`
+/// there is no failure but these. After a failure nothing was reported, and nothing was written
+/// unless it is `Output`.
 pub fn view_path<R: Runtime + AllocGlobal, O: Write, E: Write>(
     rt: &R,
     path: Text,

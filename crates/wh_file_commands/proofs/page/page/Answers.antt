@@ -1,7 +1,8 @@
-use Rattle.std.proofs.Common.{refl}
-use Rattle.std.specs.Prelude.{Ok, string_bytes}
+use Rattle.std.proofs.Common.{ap, refl}
+use Rattle.std.specs.Prelude.{Err, Ok, string_bytes}
 use Rattle.wh_file_commands.proofs.Refused.{output_failed}
 use Rattle.wh_file_commands.proofs.Steps.{page_ended}
+use Rattle.wh_file_commands.proofs.Unpaged.{unpaged_shown}
 use Rattle.wh_file_commands.proofs.page.page.Goals as goal
 
 -- the page is out
@@ -22,5 +23,12 @@ returns-in-Ok-clause-refused g c =
 pub returns-in-Err-clause-refused : goal.returns-in-Err-clause-refused
 returns-in-Err-clause-refused g c = record {
   quiet = c.in-Err.ensures.quiet;
-  unwritten = λ other. c.in-Err.ensures.unwritten (c.failure_of.ensures other);
+  unwritten = λ other. c.in-Err.ensures.unwritten (λ is. other (c.failure_of.ensures.output.1 is));
 }
+
+-- and its bytes tell why
+pub returns-in-Err-clause-why : goal.returns-in-Err-clause-why
+returns-in-Err-clause-why g c =
+    let name = string_bytes c.args.name in
+    let fault = c.in-Err.fault in
+    unpaged_shown name c.args.bytes.now fault c.failure_of.result (λ own is. c.in-Err.ensures.unviewed own (ap Err is)) c.failure_of.ensures.why

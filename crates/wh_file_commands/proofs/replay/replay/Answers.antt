@@ -2,8 +2,6 @@ use Rattle.std.proofs.Common.{◌∙◌, ap, subst}
 use Rattle.std.specs.List.{list_any}
 use Rattle.wh_console.specs.Consoles.{Reported}
 use Rattle.wh_known_types.specs.Types.{known_types_text, lacks_code}
-use Rattle.wh_inputs.specs.Readings.{IsReadAs}
-use Rattle.wh_progress.proofs.Batched.{stopped_if}
 use Rattle.wh_file_commands.proofs.Steps.{not_replayed, replayed_cut}
 use Rattle.wh_file_commands.proofs.replay.replay.Goals as goal
 
@@ -20,6 +18,12 @@ returns-clause-replayed g c =
       reported = c.in-Ok.ensures.reported;
       known = subst (λ lacking. Reported c.end_report.new.console c.report.new.self (known_types_text c.args.types.now lacking)) same c.report.ensures;
     }
+
+-- or the replay stopped
+pub returns-in_err-records-clause-stopped : goal.returns-in_err-records-clause-stopped
+returns-in_err-records-clause-stopped g c =
+    not_replayed g.R.InputReader.gives c.args.strict g.W.Workflow.program c.args.inputs.items c.args.mode c.args.console.now c.check_in_batches.new.console
+    c.in_err-records.field-0.0 c.from_residual.result c.in_err-records.ensures.stopped c.from_residual.ensures.1
 
 -- or the report can't be put out
 pub returns-in-Err-clause-stopped : goal.returns-in-Err-clause-stopped
