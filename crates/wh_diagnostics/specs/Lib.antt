@@ -1,3 +1,4 @@
 pub mod Diagnostics
+pub mod Failures
 pub mod Policies
 pub mod Printing

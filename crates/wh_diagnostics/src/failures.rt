@@ -63,12 +63,10 @@ pub enum Failure {
 }
 
 impl From<InputFault> for Failure {
-    ghost use Rattle.std.specs.Prelude.{◌≡◌, ◌↔◌};
-    ghost use Rattle.wh_files.specs.declared.InputFault.{InputFault};
-    ghost use Rattle.wh_diagnostics.specs.declared.failures.Failure.{Failure};
+    ghost use Rattle.std.specs.Prelude.{◌≡◌};
+    ghost use Rattle.wh_diagnostics.specs.Failures.{input_failure};
 
-    ghost from_gives = { λ fault failure.
-        (failure ≡ Failure.OutOfMemory) ↔ (fault ≡ InputFault.OutOfMemory) };
+    ghost from_gives = { λ fault failure. failure ≡ input_failure fault };
 
     fn from(fault: InputFault) -> Failure {
         match fault {
@@ -87,12 +85,10 @@ impl From<InputFault> for Failure {
 }
 
 impl From<CommandFault> for Failure {
-    ghost use Rattle.std.specs.Prelude.{◌≡◌, ◌↔◌};
-    ghost use Rattle.wh_file_faults.specs.declared.command_fault.CommandFault.{CommandFault};
-    ghost use Rattle.wh_diagnostics.specs.declared.failures.Failure.{Failure};
+    ghost use Rattle.std.specs.Prelude.{◌≡◌};
+    ghost use Rattle.wh_diagnostics.specs.Failures.{command_failure};
 
-    ghost from_gives = { λ fault failure.
-        (failure ≡ Failure.OutOfMemory) ↔ (fault ≡ CommandFault.OutOfMemory) };
+    ghost from_gives = { λ fault failure. failure ≡ command_failure fault };
 
     fn from(fault: CommandFault) -> Failure {
         match fault {

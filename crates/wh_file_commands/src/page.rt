@@ -1,11 +1,13 @@
 //! The command `explain --html`.
 
-ghost use Rattle.std.specs.Prelude.{◌≢◌, IfErr, IfOk, string_bytes};
+ghost use Rattle.std.specs.Prelude.{◌≡◌, ◌≢◌, ◌↔◌, Err, IfErr, IfOk, string_bytes};
 ghost use Rattle.std.specs.Io.KnownBytes.{Keeps};
 ghost use Rattle.wh_console.specs.Consoles.{IsQuiet};
-ghost use Rattle.wh_file_commands.specs.Pages.{HasPaged, HasPagedInput, HasPagedPath};
-ghost use Rattle.wh_file_commands.specs.Refusals.{IsRefused};
+ghost use Rattle.wh_file_commands.specs.Pages.{HasPaged, HasPagedInput, HasPagedPath, IsUnpaged};
+ghost use Rattle.wh_file_commands.specs.Refusals.{IsRefused, IsUnshown, IsUnshownInput, IsUnshownPath};
 ghost use Rattle.wh_file_page.specs.Pages.{IsPaged};
+ghost use Rattle.wh_json.specs.declared.fault.ReadFault.{ReadFault};
+ghost use Rattle.wh_view.specs.Views.{members_of};
 
 use crate::view::unviewed;
 use std::alloc::Global;
@@ -32,13 +34,16 @@ fn print_page<W: Workflow, O: Write, E: Write>(
         console.old.output console.new.output) }
     ensures unwritten { IfErr result (λ fault. fault ≢ PageFault.Output
         → Keeps console.old.output console.new.output) }
+    ensures unviewed { (fault : ReadFault) → result ≡ Err (PageFault.Unviewed fault)
+        → members_of bytes.now ≡ Err fault }
 {
     page_command::<W, Outlet<O>>(alloc, name, bytes, only_recorded, &mut console.output)
 }
 
 /// Why there is no page of a file.
 fn failure_of(alloc: Global, name: String, fault: PageFault, bytes: &[u8]) -> Failure
-    ensures { result ≢ Failure.Output → fault ≢ PageFault.Output }
+    ensures why { IsUnpaged (string_bytes name) bytes.now fault result }
+    ensures output { (result ≡ Failure.Output) ↔ (fault ≡ PageFault.Output) }
 {
     match fault {
         PageFault::Unviewed(fault) => unviewed(alloc, Text::new(name), fault, bytes),
@@ -58,6 +63,7 @@ fn page<W: Workflow, O: Write, E: Write>(
     ensures paged { IfOk result
         (HasPaged W.program only_recorded (string_bytes name) bytes.now console.old console.new) }
     ensures refused { IfErr result (IsRefused console.old console.new) }
+    ensures why { IfErr result (IsUnshown (string_bytes name) bytes.now) }
 {
     match print_page::<W, O, E>(alloc, name.as_str(), bytes, only_recorded, console) {
         Ok(status) => flushed(Ok(status), console),
@@ -74,6 +80,7 @@ fn page_input<W: Workflow, R: InputReader + AllocGlobal, O: Write, E: Write>(
 ) -> Result<u8, Failure>
     ensures paged { IfOk result (HasPagedInput R.gives W.program only_recorded input console.old console.new) }
     ensures refused { IfErr result (IsRefused console.old console.new) }
+    ensures why { IfErr result (IsUnshownInput R.gives input) }
 {
     let (name, bytes) = file_from(rt, input)?;
     page::<W, O, E>(rt.alloc(), name, bytes.as_slice(), only_recorded, console)
@@ -91,6 +98,7 @@ pub fn page_path<W: Workflow, R: Runtime + AllocGlobal, O: Write, E: Write>(
 ) -> Result<u8, Failure>
     ensures paged { IfOk result (HasPagedPath W.program only_recorded path console.old console.new) }
     ensures refused { IfErr result (IsRefused console.old console.new) }
+    ensures why { IfErr result (IsUnshownPath path) }
 {
     let input = input_of(rt, path)?;
     page_input::<W, R, O, E>(rt, input, only_recorded, console)

@@ -1,8 +1,9 @@
 //! The command `explain --recorded`.
 
-ghost use Rattle.std.specs.Prelude.{◌≡◌, IfErr, IfOk, OnOk};
+ghost use Rattle.std.specs.Prelude.{◌≡◌, IfErr, IfOk, OnOk, string_bytes};
 ghost use Rattle.wh_console.specs.Consoles.{IsQuiet, Printed};
-ghost use Rattle.wh_file_commands.specs.Refusals.{IsRefused};
+ghost use Rattle.wh_file_commands.specs.Refusals.{IsRefused, IsUnshown, IsUnshownInput, IsUnshownPath};
+ghost use Rattle.wh_file_commands.specs.Refusals.{IsUnviewed, IsUnviewedJson};
 ghost use Rattle.wh_file_commands.specs.Views.{HasViewed, HasViewedInput, HasViewedPath};
 ghost use Rattle.wh_report.specs.Commands.{view_as};
 
@@ -20,17 +21,28 @@ use wh_report::write_view_as;
 use wh_view::{View, view_of};
 use wh_view_report::Selection;
 
-/// Why the events in a file can't be shown.
-pub(crate) fn unviewed(alloc: Global, file: Text, fault: ReadFault, bytes: &[u8]) -> Failure {
-    let place = match fault {
-        ReadFault::OutOfMemory => return Failure::OutOfMemory,
-        ReadFault::BadJson => json_fault(alloc, file.get(), bytes),
-        _ => Ok(None),
-    };
-    match place {
+/// Why the events in a file that is taken for no JSON can't be shown.
+fn not_json(alloc: Global, file: Text, bytes: &[u8]) -> Failure
+    ensures { IsUnviewedJson file bytes.now result }
+{
+    match json_fault(alloc, file.get(), bytes) {
         Ok(Some(fault)) => Failure::NotJson { fault },
-        Ok(None) => Failure::NotViewed { file, fault },
+        Ok(None) => Failure::NotViewed {
+            file,
+            fault: ReadFault::BadJson,
+        },
         Err(OutOfMemory) => Failure::OutOfMemory,
+    }
+}
+
+/// Why the events in a file can't be shown.
+pub(crate) fn unviewed(alloc: Global, file: Text, fault: ReadFault, bytes: &[u8]) -> Failure
+    ensures { IsUnviewed file bytes.now fault result }
+{
+    match fault {
+        ReadFault::OutOfMemory => Failure::OutOfMemory,
+        ReadFault::BadJson => not_json(alloc, file, bytes),
+        _ => Failure::NotViewed { file, fault },
     }
 }
 
@@ -63,6 +75,7 @@ fn view<O: Write, E: Write>(
 ) -> Result<u8, Failure>
     ensures viewed { IfOk result (HasViewed bytes.now selection format console.old console.new) }
     ensures refused { IfErr result (IsRefused console.old console.new) }
+    ensures why { IfErr result (IsUnshown (string_bytes name) bytes.now) }
 {
     let view = match view_of(alloc, bytes) {
         Ok(view) => view,
@@ -82,6 +95,7 @@ fn view_input<R: InputReader + AllocGlobal, O: Write, E: Write>(
 ) -> Result<u8, Failure>
     ensures viewed { IfOk result (HasViewedInput R.gives input selection format console.old console.new) }
     ensures refused { IfErr result (IsRefused console.old console.new) }
+    ensures why { IfErr result (IsUnshownInput R.gives input) }
 {
     let (name, bytes) = file_from(rt, input)?;
     view(
@@ -106,6 +120,7 @@ pub fn view_path<R: Runtime + AllocGlobal, O: Write, E: Write>(
 ) -> Result<u8, Failure>
     ensures viewed { IfOk result (HasViewedPath path selection format console.old console.new) }
     ensures refused { IfErr result (IsRefused console.old console.new) }
+    ensures why { IfErr result (IsUnshownPath path) }
 {
     let input = input_of(rt, path)?;
     view_input::<R, O, E>(rt, input, selection, format, console)

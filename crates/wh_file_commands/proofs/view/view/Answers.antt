@@ -1,7 +1,11 @@
+use Rattle.std.proofs.Common.{subst}
+use Rattle.std.specs.Prelude.{string_bytes}
 use Rattle.wh_report.specs.Commands.{view_as}
 use Rattle.wh_diagnostics.proofs.Printed.{text_printed}
 use Rattle.wh_file_commands.proofs.Refused.{output_failed, writer_failed}
 use Rattle.wh_file_commands.proofs.Steps.{view_printed}
+use Rattle.wh_file_commands.proofs.Unshown.{unviewed_shown}
+use Rattle.wh_file_commands.specs.Refusals.{IsUnviewed}
 use Rattle.wh_file_commands.proofs.view.view.Goals as goal
 
 -- what was printed is the text of the view, and it is out
@@ -18,3 +22,9 @@ returns-clause-refused g c =
     output_failed c.args.console.now c.print_view-answer.new.console c.flushed.new.console c.flushed.result
     c.print_view-answer.ensures.quiet c.flushed.ensures.quiet
     (writer_failed c.print_view-answer.result c.flushed.result c.print_view-answer.ensures.output c.flushed.ensures.failure)
+
+-- or there is no view
+pub returns-in-Err-clause-why : goal.returns-in-Err-clause-why
+returns-in-Err-clause-why g c =
+    unviewed_shown (string_bytes c.args.name) c.args.bytes.now c.in-Err.fault c.unviewed.result c.in-Err.ensures.err
+    (subst (λ name. IsUnviewed name c.args.bytes.now c.in-Err.fault c.unviewed.result) c.new.ensures c.unviewed.ensures)

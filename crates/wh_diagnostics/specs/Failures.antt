@@ -1,0 +1,18 @@
+-- Which failures the faults of inputs and commands are.
+use Rattle.std.specs.Prelude.{string_bytes}
+use Rattle.wh_diagnostics.specs.declared.failures.Failure.{Failure}
+use Rattle.wh_diagnostics.specs.declared.failures.Failure.TheVariants as failures
+use Rattle.wh_file_faults.specs.declared.command_fault.CommandFault.{CommandFault}
+use Rattle.wh_file_faults.specs.declared.command_fault.CommandFault.TheVariants as faults
+use Rattle.wh_files.specs.declared.InputFault.{InputFault}
+use Rattle.wh_files.specs.declared.InputFault.TheVariants.{Unreadable, OutOfMemory}
+
+-- why an input can't be read: its folder or file, the entry of the folder, and the reason, or there was no memory
+abbrev pub input_failure : InputFault → Failure
+input_failure (Unreadable path entry reason) = failures.Unreadable (string_bytes path) entry reason
+input_failure OutOfMemory = failures.OutOfMemory
+
+-- why a command has no report: it can't be written, or there was no memory
+abbrev pub command_failure : CommandFault → Failure
+command_failure faults.Output = failures.Output
+command_failure faults.OutOfMemory = failures.OutOfMemory
