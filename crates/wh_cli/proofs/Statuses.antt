@@ -42,10 +42,10 @@ obeyed program queries lives types (Help text) old new status h = (let is = h.en
 pub documented : {S : Type 0} (program : Program S) (queries : Queries S) (lives : LivesBy) (types : List ℕ) (words : List (List ℕ)) (old new : ConsoleView) (status : ℕ)
     → Answers program queries lives types words old new status → status ≤ 3
 documented program queries lives types words old new status (inl h) = obeyed program queries lives types h.plan old new status h.obeys
-documented program queries lives types words old new status (inr h) = (let is = h.ends in omega arith)
+documented program queries lives types words old new status (inr h) = (let is = h.failed.ends in omega arith)
 
 -- words that ask for no plan give 2
 pub refused : {S : Type 0} (program : Program S) (queries : Queries S) (lives : LivesBy) (types : List ℕ) (words : List (List ℕ)) (old new : ConsoleView) (status : ℕ)
     → Answers program queries lives types words old new status → AskForNothing words → status ≡ 2
 refused program queries lives types words old new status (inl h) none = absurd (none h.plan h.asked)
-refused program queries lives types words old new status (inr h) none = h.ends
+refused program queries lives types words old new status (inr h) none = h.failed.ends

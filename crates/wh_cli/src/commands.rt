@@ -1,7 +1,7 @@
 //! Each plan, and the command that carries it out.
 
-ghost use Rattle.std.specs.Prelude.{IfOk};
-ghost use Rattle.wh_cli.specs.Private.Commands.{HasWorked, IsReplay, IsReplayed, Obeys};
+ghost use Rattle.std.specs.Prelude.{IfErr, IfOk};
+ghost use Rattle.wh_cli.specs.Private.Commands.{HasStopped, HasWorked, IsReplay, IsReplayed, Obeys};
 ghost use Rattle.wh_command_line.specs.Options.{IsWithinLimits, IsWithinWorkLimits};
 ghost use Rattle.wh_work.specs.Plans.{MayServe, lives};
 
@@ -73,7 +73,8 @@ where
     R::File: Send,
     R::Dir: Send,
     requires { IsReplay plan }
-    ensures { IfOk result (IsReplayed W.program types.now plan console.old console.new) }
+    ensures replayed { IfOk result (IsReplayed W.program types.now plan console.old console.new) }
+    ensures stopped { IfErr result (HasStopped W.program plan console.old console.new) }
 {
     let Plan::Replay {
         dir,
@@ -114,7 +115,9 @@ where
     F: Drop,
     requires limits { IsWithinLimits plan }
     requires serves { MayServe (F.pre live) }
-    ensures { IfOk result (Obeys W.program W.queries (lives (F.post live)) types.now plan console.old console.new) }
+    ensures obeys { IfOk result
+        (Obeys W.program W.queries (lives (F.post live)) types.now plan console.old console.new) }
+    ensures stopped { IfErr result (HasStopped W.program plan console.old console.new) }
 {
     match plan {
         Plan::Replay { .. } => replay::<W, R, O, E>(rt, types, plan, console),

@@ -1,10 +1,11 @@
 //! The program: it does what its command line asks for, and ends with a status.
 
-ghost use Rattle.std.specs.Prelude.{◌≡◌, ◌≢◌, ◌≤◌, Err, IfOk, map, string_bytes};
+ghost use Rattle.std.specs.Prelude.{◌≡◌, ◌≢◌, ◌≤◌, Err, IfErr, IfOk, map, string_bytes};
 ghost use Rattle.std.specs.Process.{exit_status};
 ghost use Rattle.wh_command_line.specs.Options.{IsWithinLimits};
-ghost use Rattle.wh_command_line.specs.Plans.{HasFewSlots, IsAskedBy};
-ghost use Rattle.wh_cli.specs.Private.Commands.{Answers, AskForNothing, HasFailed, called, is_unread, name_of};
+ghost use Rattle.wh_command_line.specs.Plans.{IsAskedBy};
+ghost use Rattle.wh_cli.specs.Private.Commands.{Answers, AskForNothing, HasFailed, IsRefusedLine};
+ghost use Rattle.wh_cli.specs.Private.Commands.{called, is_unread, name_of};
 ghost use Rattle.wh_work.specs.Plans.{MayServe, lives};
 ghost use Rattle.wh_host.specs.Machine.{IsConfig};
 
@@ -75,7 +76,7 @@ pub(crate) fn called(words: &[String]) -> &str
 fn plan(alloc: Global, types: &str, words: &[String]) -> Result<Plan, Failure>
     ensures limits { IfOk result IsWithinLimits }
     ensures asked { IfOk result (IsAskedBy (map string_bytes words.now)) }
-    ensures few { result ≡ Err Failure.FewSlots → HasFewSlots (map string_bytes words.now) }
+    ensures refused { IfErr result (IsRefusedLine (map string_bytes words.now)) }
 {
     match parse(alloc, called(words), types, words) {
         Ok(plan) => Ok(plan),
@@ -106,7 +107,7 @@ fn is_unread(failure: &Failure, closed: bool) -> bool
 /// Reports why there is no full report, unless the standard output is a closed pipe, and returns
 /// the status.
 fn fail<O: Write, E: Write>(failure: Failure, console: &mut Console<'_, O, E>) -> u8
-    ensures { HasFailed console.new result }
+    ensures { HasFailed failure console.old console.new result }
 {
     if is_unread(&failure, console.is_closed()) {
         drop(failure);

@@ -1,8 +1,8 @@
 -- Inputs that are worked on batch by batch.
-use Rattle.std.proofs.Common.{◌≡◌, ◌∙◌, ℕ, zero, suc, ◌*◌, ◌+◌, ◌-◌, ◌≤◌, ◌<◌, List, [], ◌++◌, length, take, drop, sym, ap, subst, arith}
+use Rattle.std.proofs.Common.{◌≡◌, ◌∙◌, ℕ, zero, suc, ◌*◌, ◌+◌, ◌-◌, ◌≤◌, ◌<◌, inl, inr, List, [], ◌++◌, length, take, drop, refl, sym, ap, subst, arith}
 use Rattle.std.specs.Prelude.{Bool, Result, Ok, Err, IfErr}
 use Rattle.std.proofs.Math.Seq.{take-add}
-use Rattle.std.proofs.lemmas.List.{append-nil, drop-drop, length-drop, length-take-le, take-append-drop}
+use Rattle.std.proofs.lemmas.List.{drop-drop, length-drop, length-take-le, take-append-drop}
 use Rattle.wh_console.proofs.Printing.{nothing_reported}
 use Rattle.wh_console.specs.Consoles.{ConsoleView, Reported}
 use Rattle.wh_progress.proofs.Telling.{batch_fits, reported_both, told_all, told_before_last, told_more}
@@ -124,13 +124,11 @@ batched_stopped Are faulty mode inputs batches made left old new few are =
     let size = batch_size total in
     record {
       front = take (batches * size) inputs;
-      back = drop (batches * size) inputs;
-      parts = sym (take-append-drop (batches * size) inputs);
       made = made;
       found = are.found;
       batches = batches;
       few = few;
-      within = (let same = length-take-le (batches * size) inputs (batches_fit mode total batches few) in omega (arith, same));
+      done = inl refl;
       reported = are.told;
     }
 
@@ -142,13 +140,11 @@ pub stopped_after_all : {T A : Type 0} (Are : List T → A → Type 0) (faulty :
     → HasStopped Are faulty mode inputs old new
 stopped_after_all Are faulty mode inputs made old new found told = record {
   front = inputs;
-  back = [];
-  parts = sym (append-nil inputs);
   made = made;
   found = found;
   batches = reported_batches mode (length inputs);
   few = omega arith;
-  within = batches_fit mode (length inputs) (reported_batches mode (length inputs)) (omega arith);
+  done = inr (refl, refl);
   reported = told;
 }
 
@@ -174,13 +170,11 @@ pub stopped_whole : {T A : Type 0} (Are : List T → A → Type 0) (faulty : A �
     → HasStoppedWhole Are faulty mode inputs old new
 stopped_whole Are faulty mode inputs lines old between new same stopped erased = record {
   front = stopped.front;
-  back = stopped.back;
-  parts = stopped.parts;
   made = stopped.made;
   found = stopped.found;
   batches = stopped.batches;
   few = stopped.few;
-  within = stopped.within;
+  done = stopped.done;
   reported = reported_both old between new (reports_after mode (length inputs) (faulty stopped.made) stopped.batches)
       (end_text mode (reported_batches mode (length inputs))) stopped.reported
       (subst (λ n. Reported between new (end_text mode n)) same erased);
@@ -195,13 +189,11 @@ pub whole_after_all : {T A : Type 0} (Are : List T → A → Type 0) (faulty : A
     → HasStoppedWhole Are faulty mode inputs old new
 whole_after_all Are faulty mode inputs made old new many found reported = record {
   front = inputs;
-  back = [];
-  parts = sym (append-nil inputs);
   made = made;
   found = found;
   batches = reported_batches mode (length inputs);
   few = omega arith;
-  within = batches_fit mode (length inputs) (reported_batches mode (length inputs)) (omega arith);
+  done = inr (refl, refl);
   reported = subst (λ n. Reported old new (λ name. reports_after mode n (faulty made) (reported_batches mode n) name ++ end_text mode (reported_batches mode n) name))
       (many inputs made found) reported;
 }

@@ -1,5 +1,5 @@
 -- What is reported of progress between batches of files.
-use Rattle.std.specs.Prelude.{◌≡◌, ◌≤◌, ℕ, zero, suc, ◌-◌, ◌*◌, ◌/◌, max, List, [], ◌++◌, take, length, Bool}
+use Rattle.std.specs.Prelude.{◌≡◌, ◌≤◌, ◌⊎◌, ℕ, zero, suc, ◌-◌, ◌*◌, ◌/◌, max, List, [], ◌++◌, take, length, Bool}
 use Rattle.wh_console.specs.Consoles.{ConsoleView, Reported}
 use Rattle.wh_progress.specs.Lines.{end_text, line_text, progress_of}
 use Rattle.wh_progress.specs.declared.mode.ProgressMode.{ProgressMode}
@@ -27,30 +27,32 @@ reports_of mode faulty name =
     reports_after mode (length faulty) faulty (reported_batches mode (length faulty)) name
     ++ end_text mode (reported_batches mode (length faulty)) name
 
--- something was made of inputs from the first on, perhaps of all, and progress was reported after some batches of
--- these, perhaps none
+-- so many batches of inputs are done, or all inputs are
+abbrev pub AreDone : {T : Type 0} → ProgressMode → (inputs front : List T) → (batches : ℕ) → Type 0
+AreDone mode inputs front batches =
+    (front ≡ take (batches * batch_size (length inputs)) inputs)
+    ⊎ ((front ≡ inputs) × (batches ≡ reported_batches mode (length inputs)))
+
+-- something was made of the first batches of inputs, perhaps of none or of all, and progress was reported after each of
+-- these batches but the last of all
 pub record HasStopped {T A : Type 0} (Are : List T → A → Type 0) (faulty : A → List Bool) (mode : ProgressMode)
     (inputs : List T) (old new : ConsoleView) : Type 0 where
   pub front : List T
-  pub back : List T
-  pub parts : inputs ≡ front ++ back
   pub made : A
   pub found : Are front made
   pub batches : ℕ
   pub few : batches ≤ reported_batches mode (length inputs)
-  pub within : batches * batch_size (length inputs) ≤ length front
+  pub done : AreDone mode inputs front batches
   pub reported : Reported old new (reports_after mode (length inputs) (faulty made) batches)
 
 -- the same, and then a line that was written over itself was erased
 pub record HasStoppedWhole {T A : Type 0} (Are : List T → A → Type 0) (faulty : A → List Bool) (mode : ProgressMode)
     (inputs : List T) (old new : ConsoleView) : Type 0 where
   pub front : List T
-  pub back : List T
-  pub parts : inputs ≡ front ++ back
   pub made : A
   pub found : Are front made
   pub batches : ℕ
   pub few : batches ≤ reported_batches mode (length inputs)
-  pub within : batches * batch_size (length inputs) ≤ length front
+  pub done : AreDone mode inputs front batches
   pub reported : Reported old new (λ name. reports_after mode (length inputs) (faulty made) batches name
       ++ end_text mode (reported_batches mode (length inputs)) name)

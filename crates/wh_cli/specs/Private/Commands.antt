@@ -2,24 +2,25 @@
 use Rattle.std.specs.Path.{path_file_name}
 use Rattle.std.specs.Prelude.{◌≡◌, ◌⊎◌, ℕ, List, [], ◌∷◌, codes, Bool, false, unwrap_or, if◌then◌else◌}
 use Rattle.wh_command_line.specs.Options.{sizes_of}
-use Rattle.wh_command_line.specs.Plans.{IsAskedBy}
+use Rattle.wh_command_line.specs.Plans.{HasFewSlots, IsAskedBy, IsBadLine}
 use Rattle.wh_command_line.specs.declared.command_line.Plan.{Plan}
 use Rattle.wh_command_line.specs.declared.command_line.Plan.TheVariants.{Replay, Explain, Page, View, Query, Check, Picture, Try, Serve, Work, Help}
 use Rattle.wh_command_line.specs.declared.work.WorkOptions.{WorkOptions}
-use Rattle.wh_console.specs.Consoles.{ConsoleView, Reported}
+use Rattle.wh_console.specs.Consoles.{ConsoleView, IsQuiet, Reported}
 use Rattle.wh_crew.specs.declared.serving.LiveEnd.{LiveEnd}
 use Rattle.wh_diagnostics.specs.Diagnostics.{failed_text}
 use Rattle.wh_diagnostics.specs.Printing.{HasPrinted}
 use Rattle.wh_diagnostics.specs.declared.failures.Failure.{Failure}
-use Rattle.wh_diagnostics.specs.declared.failures.Failure.TheVariants.{Output}
+use Rattle.wh_diagnostics.specs.declared.failures.Failure.TheVariants.{BadLine, FewSlots, Output, OutOfMemory}
 use Rattle.wh_file_commands.specs.Explanations.{HasExplainedPath}
 use Rattle.wh_file_commands.specs.Pages.{HasPagedPath}
 use Rattle.wh_file_commands.specs.Queries.{HasQueriedPath}
-use Rattle.wh_file_commands.specs.Replays.{HasReplayedPaths}
+use Rattle.wh_file_commands.specs.Refusals.{IsRefused}
+use Rattle.wh_file_commands.specs.Replays.{HasNotReplayedPaths, HasReplayedPaths}
 use Rattle.wh_file_commands.specs.Views.{HasViewedPath}
 use Rattle.wh_promise_findings.specs.Finds.{Finds}
 use Rattle.wh_queryable.specs.Queries.{Queries}
-use Rattle.wh_service_command.specs.Commands.{HasServedFolder}
+use Rattle.wh_service_command.specs.Commands.{HasNotServedFolder, HasServedFolder}
 use Rattle.wh_table_commands.specs.Checks.{HasCheckedPaths}
 use Rattle.wh_table_commands.specs.Pictures.{HasDrawnPath}
 use Rattle.wh_table_commands.specs.Trials.{HasTriedPath}
@@ -96,13 +97,49 @@ is_unread _ closed = false
 abbrev pub end_text : Failure → Bool → List ℕ → List ℕ
 end_text failure closed name = if is_unread failure closed then [] else failed_text failure name
 
--- there is no full report, for any reason, and whatever was reported before: the reason was reported last, unless the
--- standard output is a closed pipe, and the status is 2
-pub record HasFailed (new : ConsoleView) (status : ℕ) : Type 0 where
+-- a failure was reported, unless the standard output is a closed pipe, and the status is 2
+pub record HasFailed (failure : Failure) (old new : ConsoleView) (status : ℕ) : Type 0 where
+  pub reported : Reported old new (end_text failure new.closed)
+  pub ends : status ≡ 2
+
+-- why there is no plan of these words: they are invalid, or there was no memory
+abbrev pub IsRefusedLine : List (List ℕ) → Failure → Type 0
+IsRefusedLine words (BadLine text) = IsBadLine words
+IsRefusedLine words FewSlots = HasFewSlots words
+IsRefusedLine words OutOfMemory = Unit {0}
+IsRefusedLine words _ = ⊥
+
+-- what a plan asks for failed, and what was written and reported until then
+abbrev pub HasStopped : {S : Type 0} → Program S → Plan → (old new : ConsoleView) → Failure → Type 0
+HasStopped program (Replay dir more format required strict progress) old new failure =
+    HasNotReplayedPaths program dir more.items strict progress old new failure
+HasStopped program (Explain file selection format) old new failure = IsQuiet old new
+HasStopped program (Page file only_recorded) old new failure = IsRefused old new failure
+HasStopped program (View file selection format) old new failure = IsRefused old new failure
+HasStopped program (Query file query_type input format) old new failure = IsRefused old new failure
+HasStopped program (Serve dir options required progress) old new failure =
+    HasNotServedFolder program dir progress old new failure
+HasStopped program _ old new failure = Unit {0}
+
+-- the words ask for a plan, and what that asks for failed
+pub record HasStoppedAtWords {S : Type 0} (program : Program S) (words : List (List ℕ)) (old new : ConsoleView)
+    (failure : Failure) : Type 0 where
+  pub plan : Plan
+  pub asked : IsAskedBy words plan
+  pub stopped : HasStopped program plan old new failure
+
+-- why the words have no full report: they are refused, and then nothing was done, or what they ask for failed
+abbrev pub IsUnanswered : {S : Type 0} → Program S → List (List ℕ) → (old new : ConsoleView) → Failure → Type 0
+IsUnanswered program words old new failure =
+    ((new ≡ old) × IsRefusedLine words failure) ⊎ HasStoppedAtWords program words old new failure
+
+-- there is no full report: what was reported until then stands, and then the failure was reported
+pub record HasNoReport {S : Type 0} (program : Program S) (words : List (List ℕ)) (old new : ConsoleView)
+    (status : ℕ) : Type 0 where
   pub failure : Failure
   pub between : ConsoleView
-  pub reported : Reported between new (end_text failure new.closed)
-  pub ends : status ≡ 2
+  pub why : IsUnanswered program words old between failure
+  pub failed : HasFailed failure between new status
 
 -- no plan is asked for by the words
 abbrev pub AskForNothing : List (List ℕ) → Type 0
@@ -112,4 +149,4 @@ AskForNothing words = (plan : Plan) → IsAskedBy words plan → ⊥
 abbrev pub Answers : {S : Type 0} → Program S → Queries S → LivesBy → (types : List ℕ) → List (List ℕ)
     → (old new : ConsoleView) → (status : ℕ) → Type 0
 Answers program queries lives types words old new status =
-    ObeysWords program queries lives types words old new status ⊎ HasFailed new status
+    ObeysWords program queries lives types words old new status ⊎ HasNoReport program words old new status

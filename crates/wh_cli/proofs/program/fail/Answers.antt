@@ -5,8 +5,6 @@ use Rattle.wh_cli.proofs.program.fail.Goals as goal
 -- nothing is reported on a closed pipe
 pub returns-then-is_unread : goal.returns-then-is_unread
 returns-then-is_unread g c = record {
-  failure = c.args.failure;
-  between = c.args.console.now;
   reported = nothing_said c.args.console.now c.args.failure c.args.console.now.closed (search rules);
   ends = refl;
 }
@@ -14,8 +12,6 @@ returns-then-is_unread g c = record {
 -- and else why there is no full report
 pub returns-else-is_unread : goal.returns-else-is_unread
 returns-else-is_unread g c = record {
-  failure = c.args.failure;
-  between = c.args.console.now;
   reported = why_said c.args.console.now c.report.new.self c.args.failure c.report.new.self.closed (search rules) c.report.ensures;
   ends = refl;
 }
