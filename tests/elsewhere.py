@@ -20,6 +20,7 @@ import time
 import uuid
 from pathlib import Path
 
+SYSTEM = "/usr/bin/python3"  # Debian's package python3-grpcio is for this one.
 TOP = Path(__file__).resolve().parent.parent
 sys.dont_write_bytecode = True
 TRIMMED = TOP / "standin/trimmed"
@@ -148,6 +149,8 @@ def main():
     parser = argparse.ArgumentParser(description=__doc__, formatter_class=argparse.RawDescriptionHelpFormatter)
     parser.add_argument("--program", default=str(TOP / "crates/wfhost/out/wfhost"))
     asked = parser.parse_args()
+    if importlib.util.find_spec("grpc") is None and sys.executable != SYSTEM and os.access(SYSTEM, os.X_OK):
+        os.execv(SYSTEM, [SYSTEM, *sys.argv])
     if importlib.util.find_spec("grpc") is None:
         print("skipped: grpcio is missing, which Debian's package python3-grpcio has")
         return 0
