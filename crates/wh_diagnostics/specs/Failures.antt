@@ -16,3 +16,14 @@ input_failure OutOfMemory = failures.OutOfMemory
 abbrev pub command_failure : CommandFault → Failure
 command_failure faults.Output = failures.Output
 command_failure faults.OutOfMemory = failures.OutOfMemory
+
+-- why an input can't be read: its folder or file can't be, or there was no memory
+abbrev pub IsReadFailure : Failure → Type 0
+IsReadFailure (failures.Unreadable dir entry reason) = Unit {0}
+IsReadFailure failures.OutOfMemory = Unit {0}
+IsReadFailure _ = ⊥
+
+-- why there is no full report of inputs: one can't be read, the report can't be written, or there was no memory
+abbrev pub IsReportFailure : Failure → Type 0
+IsReportFailure failures.Output = Unit {0}
+IsReportFailure failure = IsReadFailure failure

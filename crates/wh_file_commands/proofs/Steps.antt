@@ -7,7 +7,7 @@ use Rattle.wh_console.proofs.Printing.{printed_kept, quiet_twice, written_kept}
 use Rattle.wh_console.specs.Consoles.{ConsoleView, IsQuiet, Printed, Reported}
 use Rattle.wh_console.specs.declared.format.Format.{Format}
 use Rattle.wh_diagnostics.specs.Diagnostics.{record_lines, records_lines}
-use Rattle.wh_diagnostics.specs.Failures.{input_failure}
+use Rattle.wh_diagnostics.specs.Failures.{input_failure, IsReportFailure}
 use Rattle.wh_diagnostics.specs.Printing.{HasPrinted, status_with}
 use Rattle.wh_diagnostics.specs.declared.failures.Failure.{Failure}
 use Rattle.wh_diagnostics.specs.declared.failures.Failure.TheVariants.{Output}
@@ -15,7 +15,6 @@ use Rattle.wh_file_commands.specs.Explanations.{HasExplained, HasExplainedInput,
 use Rattle.wh_file_commands.specs.Pages.{HasPaged, HasPagedInput, HasPagedPath}
 use Rattle.wh_file_commands.specs.Queries.{HasQueried, HasQueriedInput, HasQueriedPath}
 use Rattle.wh_file_commands.specs.Batches.{faulty_of}
-use Rattle.wh_file_commands.specs.Refusals.{IsUnreported}
 use Rattle.wh_file_commands.specs.Replays.{HasNotReplayed, HasNotReplayedPaths, HasReplayed, HasReplayedPaths, HasReported}
 use Rattle.wh_file_commands.proofs.Batched.{as_many}
 use Rattle.wh_file_commands.specs.Views.{HasViewed, HasViewedInput, HasViewedPath}
@@ -25,7 +24,6 @@ use Rattle.wh_file_faults.specs.declared.command_fault.CommandFault.{CommandFaul
 use Rattle.wh_files.specs.Inputs.{IsCalled, IsOf, IsReadFrom, IsSingle}
 use Rattle.wh_files.specs.declared.Input.{Input}
 use Rattle.wh_files.specs.declared.InputFault.{InputFault}
-use Rattle.wh_files.specs.declared.InputFault.TheVariants as input_faults
 use Rattle.wh_inputs.specs.Listings.{AreListed, is_by_path, lacks_files}
 use Rattle.wh_inputs.specs.Readings.{Gives, IsReadAs}
 use Rattle.wh_queryable.specs.Queries.{Queries}
@@ -218,11 +216,6 @@ stopped_at_paths program first more strict left_out progress link mode inputs ol
       stopped = subst (λ m. HasNotReplayed IsReadFrom strict program inputs m between new failure) shown h;
     })
 
--- inputs can't be read, or there was no memory
-input_unreported : (fault : InputFault) → IsUnreported (input_failure fault)
-input_unreported (input_faults.Unreadable path entry reason) = tt
-input_unreported input_faults.OutOfMemory = tt
-
 -- the replay stopped, and nothing more came of it
 pub not_replayed : {T S : Type 0} (gives : Gives) (strict : Bool) (program : Program S) (inputs : List Input) (mode : ProgressMode) (old new : ConsoleView) (fault : InputFault) (answer : Result T Failure)
     → HasStoppedWhole (AreRecordsOf strict program (IsReadAs gives)) faulty_of mode inputs old new
@@ -234,7 +227,7 @@ not_replayed gives strict program inputs mode old new fault (Err failure) stoppe
   stopped = stopped;
   quiet = record { named = refl; errors = refl; whole = refl };
   unwritten = λ other. refl;
-  why = subst IsUnreported (sym is) (input_unreported fault);
+  why = subst IsReportFailure (sym is) (input_unreported fault);
 }
 
 -- all was replayed, and the report can't be written
@@ -248,7 +241,7 @@ replayed_cut gives strict program inputs mode records old between new failure fo
   stopped = whole_after_all (AreRecordsOf strict program (IsReadAs gives)) faulty_of mode inputs records old between (as_many strict program (IsReadAs gives)) found told;
   quiet = cut.1;
   unwritten = λ other. absurd (other cut.0);
-  why = subst IsUnreported (sym cut.0) tt;
+  why = subst IsReportFailure (sym cut.0) tt;
 }
 
 -- the page of a file that was written stays

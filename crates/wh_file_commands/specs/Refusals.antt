@@ -2,6 +2,7 @@
 use Rattle.std.specs.Prelude.{◌≡◌, ◌≢◌, ◌⊎◌, ℕ, List, false, Err, IsSome, None, Option, string_bytes}
 use Rattle.std.specs.Io.KnownBytes.{Keeps}
 use Rattle.wh_console.specs.Consoles.{ConsoleView, IsQuiet}
+use Rattle.wh_diagnostics.specs.Failures.{IsReadFailure}
 use Rattle.wh_diagnostics.specs.declared.failures.Failure.{Failure}
 use Rattle.wh_diagnostics.specs.declared.failures.Failure.TheVariants.{BadInput, NotJson, NotViewed, Output, OutOfMemory, Unreadable}
 use Rattle.wh_file_faults.specs.Faults.{File, IsNoJson}
@@ -19,13 +20,6 @@ use Rattle.wh_view.specs.Views.{members_of}
 pub record IsRefused (old new : ConsoleView) (failure : Failure) : Type 0 where
   pub quiet : IsQuiet old new
   pub unwritten : failure ≢ Output → Keeps old.output new.output
-
--- why there is no full report of inputs: one can't be read, the report can't be written, or there was no memory
-abbrev pub IsUnreported : Failure → Type 0
-IsUnreported (Unreadable dir entry reason) = Unit {0}
-IsUnreported Output = Unit {0}
-IsUnreported OutOfMemory = Unit {0}
-IsUnreported _ = ⊥
 
 -- an argument of a query is no JSON, or there was no memory to see that
 abbrev pub IsBadQuery : Failure → Type 0
@@ -71,15 +65,9 @@ pub record IsUnshownFile (gives : Gives) (input : Input) (failure : Failure) : T
   pub read : IsReadAs gives input file
   pub unshown : IsUnshown (string_bytes file.0) file.1.items failure
 
--- an input can't be read, or there was no memory
-abbrev pub IsUnread : Failure → Type 0
-IsUnread (Unreadable dir entry reason) = Unit {0}
-IsUnread OutOfMemory = Unit {0}
-IsUnread _ = ⊥
-
 -- why nothing is shown of an input: it can't be read, or nothing is shown of the file that was read
 abbrev pub IsUnshownInput : Gives → Input → Failure → Type 0
-IsUnshownInput gives input failure = IsUnread failure ⊎ IsUnshownFile gives input failure
+IsUnshownInput gives input failure = IsReadFailure failure ⊎ IsUnshownFile gives input failure
 
 -- a path names an input, which is no folder, and nothing is shown of that
 pub record IsUnshownAt (path : List ℕ) (failure : Failure) : Type 0 where

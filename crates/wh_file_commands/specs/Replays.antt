@@ -4,13 +4,13 @@ use Rattle.std.specs.List.{list_any}
 use Rattle.wh_console.specs.Consoles.{ConsoleView, IsQuiet, Printed, Reported}
 use Rattle.wh_console.specs.declared.format.Format.{Format}
 use Rattle.wh_diagnostics.specs.Diagnostics.{records_lines}
+use Rattle.wh_diagnostics.specs.Failures.{IsReportFailure}
 use Rattle.wh_diagnostics.specs.Printing.{status_with}
 use Rattle.wh_diagnostics.specs.declared.failures.Failure.{Failure}
 use Rattle.wh_diagnostics.specs.declared.failures.Failure.TheVariants.{Output}
 use Rattle.wh_files.specs.Inputs.{IsReadFrom}
 use Rattle.wh_files.specs.declared.Input.{Input}
 use Rattle.wh_file_commands.specs.Batches.{faulty_of}
-use Rattle.wh_file_commands.specs.Refusals.{IsUnreported}
 use Rattle.wh_inputs.specs.Listings.{AreListed, AreUnlisted, is_by_path, lacks_files}
 use Rattle.wh_inputs.specs.Readings.{Gives, IsReadAs}
 use Rattle.wh_known_types.specs.Types.{known_types_text, lacks_code}
@@ -52,7 +52,7 @@ pub record HasNotReplayed {S : Type 0} (gives : Gives) (strict : Bool) (program 
   pub stopped : HasStoppedWhole (AreRecordsOf strict program (IsReadAs gives)) faulty_of mode inputs old between
   pub quiet : IsQuiet between new
   pub unwritten : failure ≢ Output → new.output ≡ between.output
-  pub why : IsUnreported failure
+  pub why : IsReportFailure failure
 
 -- what paths name was replayed, and progress was reported as some link of the standard error and the option for it have
 -- it
