@@ -5,7 +5,7 @@ use Rattle.std.proofs.Math.Seq.{take-add}
 use Rattle.std.proofs.lemmas.List.{drop-drop, length-drop, length-take-le, take-append-drop}
 use Rattle.wh_console.proofs.Printing.{nothing_reported}
 use Rattle.wh_console.specs.Consoles.{ConsoleView, Reported}
-use Rattle.wh_progress.proofs.Telling.{batch_fits, reported_both, told_all, told_before_last, told_more}
+use Rattle.wh_progress.proofs.Telling.{batch_fits, reported_apart, told_all, told_before_last, told_more}
 use Rattle.wh_progress.specs.Batches.{batch_size, reports_after, reported_batches, reports_of, HasStopped, HasStoppedWhole}
 use Rattle.wh_progress.specs.Lines.{end_text, line_text, progress_of}
 use Rattle.wh_progress.specs.declared.mode.ProgressMode.{ProgressMode}
@@ -161,7 +161,7 @@ told_in_all Are faulty mode inputs lines made a b c many same found told ended =
     told_all mode (length inputs) (faulty made) a b c (sym (many inputs made found)) told
     (subst (λ n. Reported b c (end_text mode n)) same ended)
 
--- the work stopped, and then the line that stood there was erased
+-- the work stopped, and then what erases a line was written
 pub stopped_whole : {T A : Type 0} (Are : List T → A → Type 0) (faulty : A → List Bool) (mode : ProgressMode) (inputs : List T) (lines : ℕ)
     (old between new : ConsoleView)
     → lines ≡ reported_batches mode (length inputs)
@@ -169,15 +169,9 @@ pub stopped_whole : {T A : Type 0} (Are : List T → A → Type 0) (faulty : A �
     → Reported between new (end_text mode lines)
     → HasStoppedWhole Are faulty mode inputs old new
 stopped_whole Are faulty mode inputs lines old between new same stopped erased = record {
-  front = stopped.front;
-  made = stopped.made;
-  found = stopped.found;
-  batches = stopped.batches;
-  few = stopped.few;
-  done = stopped.done;
-  reported = reported_both old between new (reports_after mode (length inputs) (faulty stopped.made) stopped.batches)
-      (end_text mode (reported_batches mode (length inputs))) stopped.reported
-      (subst (λ n. Reported between new (end_text mode n)) same erased);
+  between = between;
+  stopped = stopped;
+  erased = subst (λ n. Reported between new (end_text mode n)) same erased;
 }
 
 -- all was reported, and nothing more came of it
@@ -187,16 +181,17 @@ pub whole_after_all : {T A : Type 0} (Are : List T → A → Type 0) (faulty : A
     → Are inputs made
     → Reported old new (reports_of mode (faulty made))
     → HasStoppedWhole Are faulty mode inputs old new
-whole_after_all Are faulty mode inputs made old new many found reported = record {
-  front = inputs;
-  made = made;
-  found = found;
-  batches = reported_batches mode (length inputs);
-  few = omega arith;
-  done = inr (refl, refl);
-  reported = subst (λ n. Reported old new (λ name. reports_after mode n (faulty made) (reported_batches mode n) name ++ end_text mode (reported_batches mode n) name))
-      (many inputs made found) reported;
-}
+whole_after_all Are faulty mode inputs made old new many found reported =
+    let lines = reported_batches mode (length inputs) in
+    let before = reports_after mode (length inputs) (faulty made) lines in
+    let apart = reported_apart old new before (end_text mode lines)
+    (subst (λ n. Reported old new (λ name. reports_after mode n (faulty made) (reported_batches mode n) name ++ end_text mode (reported_batches mode n) name))
+    (many inputs made found) reported) in
+    record {
+      between = apart.0;
+      stopped = stopped_after_all Are faulty mode inputs made old apart.0 found apart.1;
+      erased = apart.2;
+    }
 
 -- whatever the fault is
 pub stopped_if : {X E : Type 0} {P : Type 0} (answer : Result X E) → P → IfErr answer (λ fault. P)

@@ -1,2 +1,3 @@
 pub mod Batched
+pub mod Counted
 pub mod Telling

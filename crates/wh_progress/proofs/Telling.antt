@@ -1,7 +1,7 @@
 -- What was reported between batches, one line after the other.
 use Rattle.std.proofs.Common.{◌≡◌, ◌∙◌, ℕ, zero, suc, ◌*◌, ◌≤◌, ◌<◌, ◌-◌, ◌/◌, List, ◌++◌, length, None, Some, refl, sym, ap, ap₂, subst, arith}
 use Rattle.std.specs.Prelude.{Bool, Option}
-use Rattle.std.specs.Io.KnownBytes.{Appends}
+use Rattle.std.specs.Io.KnownBytes.{append_known, Appends}
 use Rattle.std.proofs.lemmas.List.{append_assoc, take-append-le, take_all}
 use Rattle.std.proofs.Math.Nat.{div-mul-le_self, mul-le-mul_right}
 use Rattle.wh_console.specs.Consoles.{ConsoleView, Reported}
@@ -31,6 +31,36 @@ reported_both a b c first second p q = record {
             (subst (λ name. Appends b.errors c.errors (second name)) p.named later.1),
       );
 }
+
+-- a text is put after what is known
+put_after : (known : Option (List ℕ)) (text : List ℕ) → Appends known (append_known known text) text
+put_after None text = tt
+put_after (Some x) text = refl
+
+-- what was written at once was written one after the other
+written_apart : (a c : Option (List ℕ)) (first second : List ℕ) → Appends a c (first ++ second) → Appends (append_known a first) c second
+written_apart None c first second p = tt
+written_apart (Some x) None first second p = absurd p
+written_apart (Some x) (Some y) first second p = p ∙ sym (append_assoc x first second)
+
+-- a console to which the first part of a text was reported
+abbrev told_first : (a c : ConsoleView) → (first : List ℕ → List ℕ) → ConsoleView
+told_first a c first =
+    record { name = a.name; output = a.output; closed = a.closed; errors = append_known a.errors (first a.name); whole = c.whole }
+
+-- what was reported at once was reported one after the other
+pub reported_apart : (a c : ConsoleView) (first second : List ℕ → List ℕ) → Reported a c (λ name. first name ++ second name)
+    → (b : ConsoleView) × Reported a b first × Reported b c second
+reported_apart a c first second p = (
+  told_first a c first,
+  record { named = refl; output = refl; closed = refl; told = λ whole. ((p.told whole).0, put_after a.errors (first a.name)) },
+  record {
+    named = p.named;
+    output = p.output;
+    closed = p.closed;
+    told = λ whole. (whole, written_apart a.errors c.errors (first a.name) (second a.name) (p.told whole).1);
+  },
+)
 
 -- a text that is the same under the program's name
 pub reported_as : (a b : ConsoleView) (one other : List ℕ → List ℕ) → one a.name ≡ other a.name → Reported a b one → Reported a b other

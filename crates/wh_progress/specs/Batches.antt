@@ -27,7 +27,7 @@ reports_of mode faulty name =
     reports_after mode (length faulty) faulty (reported_batches mode (length faulty)) name
     ++ end_text mode (reported_batches mode (length faulty)) name
 
--- so many batches of inputs are done, or all inputs are
+-- so many batches of inputs are done, or all inputs are and every report of progress was made
 abbrev pub AreDone : {T : Type 0} → ProgressMode → (inputs front : List T) → (batches : ℕ) → Type 0
 AreDone mode inputs front batches =
     (front ≡ take (batches * batch_size (length inputs)) inputs)
@@ -45,14 +45,9 @@ pub record HasStopped {T A : Type 0} (Are : List T → A → Type 0) (faulty : A
   pub done : AreDone mode inputs front batches
   pub reported : Reported old new (reports_after mode (length inputs) (faulty made) batches)
 
--- the same, and then a line that was written over itself was erased
+-- the same, and then what erases a line that may stand there was written
 pub record HasStoppedWhole {T A : Type 0} (Are : List T → A → Type 0) (faulty : A → List Bool) (mode : ProgressMode)
     (inputs : List T) (old new : ConsoleView) : Type 0 where
-  pub front : List T
-  pub made : A
-  pub found : Are front made
-  pub batches : ℕ
-  pub few : batches ≤ reported_batches mode (length inputs)
-  pub done : AreDone mode inputs front batches
-  pub reported : Reported old new (λ name. reports_after mode (length inputs) (faulty made) batches name
-      ++ end_text mode (reported_batches mode (length inputs)) name)
+  pub between : ConsoleView
+  pub stopped : HasStopped Are faulty mode inputs old between
+  pub erased : Reported between new (end_text mode (reported_batches mode (length inputs)))

@@ -3,6 +3,7 @@
 #![tactic(auto)]
 
 mod batches;
+pub mod laws;
 mod lines;
 mod mode;
 

@@ -77,16 +77,16 @@ impl Message for ProgressLine {
     }
 }
 
-/// The end of progress: a line that was written over itself is erased.
+/// The end of progress: what erases a line that is written over itself.
 #[derive(Clone, Copy, Debug)]
 pub struct ProgressEnd {
     /// How it was shown.
     pub mode: ProgressMode,
-    /// How many lines were reported. After none nothing is written.
+    /// How many lines a full run reports. If it is none, nothing is written.
     pub lines: usize,
 }
 
-/// Erases the line that was written over itself, if one was.
+/// Writes what erases the line that is written over itself, if a full run reports one.
 fn write_end<E: Write>(
     mode: ProgressMode,
     lines: usize,
