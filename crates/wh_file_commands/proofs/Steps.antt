@@ -6,6 +6,7 @@ use Rattle.std.specs.Result.{IsErrAnd}
 use Rattle.wh_console.proofs.Printing.{printed_kept, quiet_twice, written_kept}
 use Rattle.wh_console.specs.Consoles.{ConsoleView, IsQuiet, Printed, Reported}
 use Rattle.wh_console.specs.declared.format.Format.{Format}
+use Rattle.wh_diagnostics.proofs.ReadFailures.{input_fails_to_read}
 use Rattle.wh_diagnostics.specs.Diagnostics.{record_lines, records_lines}
 use Rattle.wh_diagnostics.specs.Failures.{input_failure, IsReportFailure}
 use Rattle.wh_diagnostics.specs.Printing.{HasPrinted, status_with}
@@ -17,6 +18,7 @@ use Rattle.wh_file_commands.specs.Queries.{HasQueried, HasQueriedInput, HasQueri
 use Rattle.wh_file_commands.specs.Batches.{faulty_of}
 use Rattle.wh_file_commands.specs.Replays.{HasNotReplayed, HasNotReplayedPaths, HasReplayed, HasReplayedPaths, HasReported}
 use Rattle.wh_file_commands.proofs.Batched.{as_many}
+use Rattle.wh_file_commands.proofs.Unreported.{unread_fails}
 use Rattle.wh_file_commands.specs.Views.{HasViewed, HasViewedInput, HasViewedPath}
 use Rattle.wh_file_faults.specs.Faults.{File}
 use Rattle.wh_file_page.specs.Pages.{IsPaged}
@@ -24,6 +26,7 @@ use Rattle.wh_file_faults.specs.declared.command_fault.CommandFault.{CommandFaul
 use Rattle.wh_files.specs.Inputs.{IsCalled, IsOf, IsReadFrom, IsSingle}
 use Rattle.wh_files.specs.declared.Input.{Input}
 use Rattle.wh_files.specs.declared.InputFault.{InputFault}
+use Rattle.wh_files.specs.declared.InputFault.TheVariants as input_faults
 use Rattle.wh_inputs.specs.Listings.{AreListed, is_by_path, lacks_files}
 use Rattle.wh_inputs.specs.Readings.{Gives, IsReadAs}
 use Rattle.wh_queryable.specs.Queries.{Queries}
@@ -216,6 +219,11 @@ stopped_at_paths program first more strict left_out progress link mode inputs ol
       stopped = subst (λ m. HasNotReplayed IsReadFrom strict program inputs m between new failure) shown h;
     })
 
+-- an input that can't be read is no fault of the output
+no_output_fault : (fault : InputFault) → input_failure fault ≡ Output → ⊥
+no_output_fault (input_faults.Unreadable path entry reason) is = absurd cc
+no_output_fault input_faults.OutOfMemory is = absurd cc
+
 -- the replay stopped, and nothing more came of it
 pub not_replayed : {T S : Type 0} (gives : Gives) (strict : Bool) (program : Program S) (inputs : List Input) (mode : ProgressMode) (old new : ConsoleView) (fault : InputFault) (answer : Result T Failure)
     → HasStoppedWhole (AreRecordsOf strict program (IsReadAs gives)) faulty_of mode inputs old new
@@ -225,9 +233,10 @@ not_replayed gives strict program inputs mode old new fault (Ok value) stopped i
 not_replayed gives strict program inputs mode old new fault (Err failure) stopped is = record {
   between = new;
   stopped = stopped;
+  whole = λ output. absurd (no_output_fault fault (sym is ∙ output));
   quiet = record { named = refl; errors = refl; whole = refl };
   unwritten = λ other. refl;
-  why = subst IsReportFailure (sym is) (input_unreported fault);
+  why = subst IsReportFailure (sym is) (unread_fails (input_failure fault) (input_fails_to_read fault));
 }
 
 -- all was replayed, and the report can't be written
@@ -239,6 +248,7 @@ pub replayed_cut : {S : Type 0} (gives : Gives) (strict : Bool) (program : Progr
 replayed_cut gives strict program inputs mode records old between new failure found told cut = record {
   between = between;
   stopped = whole_after_all (AreRecordsOf strict program (IsReadAs gives)) faulty_of mode inputs records old between (as_many strict program (IsReadAs gives)) found told;
+  whole = λ output. record { records = records; found = found; told = told };
   quiet = cut.1;
   unwritten = λ other. absurd (other cut.0);
   why = subst IsReportFailure (sym cut.0) tt;

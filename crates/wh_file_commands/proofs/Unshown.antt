@@ -1,9 +1,10 @@
 -- Why nothing is shown of a file.
 use Rattle.std.proofs.Common.{◌≡◌, ℕ, List, ap, inr, refl, sym, subst}
-use Rattle.std.specs.Prelude.{◌≢◌, false, Option, Some, None, Result, Ok, Err, IfErr, string_bytes}
+use Rattle.std.specs.Prelude.{◌≢◌, false, Option, Some, None, Result, Ok, Err, IfErr, IsOk, string_bytes}
 use Rattle.wh_diagnostics.specs.declared.failures.Failure.{Failure}
 use Rattle.wh_diagnostics.specs.declared.failures.Failure.TheVariants.{BadLine, BadArguments, FewSlots, BadInput, Unreadable, NotJson, NotViewed, NotText, BadPolicies, Output, OutOfMemory}
-use Rattle.wh_file_commands.specs.Refusals.{IsUnshown, IsUnshownInput, IsUnshownPath, IsUnviewed, IsUnviewedJson}
+use Rattle.wh_file_commands.specs.Private.Refusals.{IsUnviewed, IsUnviewedJson}
+use Rattle.wh_file_commands.specs.Refusals.{IsUnshown, IsUnshownInput, IsUnshownPath}
 use Rattle.wh_file_faults.proofs.Unread.{valued}
 use Rattle.wh_file_faults.specs.Faults.{File}
 use Rattle.wh_files.specs.Inputs.{IsCalled, IsOf, IsReadFrom, IsSingle}
@@ -61,6 +62,13 @@ unviewed_shown name bytes (reads.BadTime at) failure is h = other_unviewed name 
 unviewed_shown name bytes (reads.BadPayload at) failure is h = other_unviewed name bytes (reads.BadPayload at) failure (λ e. absurd cc) (is (λ e. absurd cc)) h
 unviewed_shown name bytes (reads.ShorthandPayload at) failure is h = other_unviewed name bytes (reads.ShorthandPayload at) failure (λ e. absurd cc) (is (λ e. absurd cc)) h
 unviewed_shown name bytes (reads.UnsupportedMarker at kind) failure is h = other_unviewed name bytes (reads.UnsupportedMarker at kind) failure (λ e. absurd cc) (is (λ e. absurd cc)) h
+
+-- the events of a file can't be written
+pub unwritten_shown : (name bytes : List ℕ) (answer : Result ℕ Failure)
+    → IsOk (members_of bytes) → IfErr answer (λ failure. failure ≡ Output)
+    → IfErr answer (IsUnshown name bytes)
+unwritten_shown name bytes (Ok status) members is = tt
+unwritten_shown name bytes (Err failure) members is = subst (IsUnshown name bytes) (sym is) members
 
 -- nothing is shown of an input that was read as a file of which nothing is shown
 pub file_unshown : (gives : Gives) (input : Input) (file : File) (seen : List ℕ) (answer : Result ℕ Failure)

@@ -1,13 +1,8 @@
--- What is written of the page of a file, and why there is none.
-use Rattle.std.specs.Prelude.{◌≡◌, ℕ, List, Bool, false, string_bytes}
+-- What is written of the page of a file.
+use Rattle.std.specs.Prelude.{ℕ, List, Bool, false, string_bytes}
 use Rattle.wh_console.specs.Consoles.{ConsoleView, IsQuiet}
-use Rattle.wh_diagnostics.specs.declared.failures.Failure.{Failure}
-use Rattle.wh_diagnostics.specs.declared.failures.Failure.TheVariants as failures
-use Rattle.wh_file_commands.specs.Refusals.{IsUnviewed}
 use Rattle.wh_file_faults.specs.Faults.{File}
 use Rattle.wh_file_page.specs.Pages.{IsPaged}
-use Rattle.wh_file_page.specs.declared.fault.PageFault.{PageFault}
-use Rattle.wh_file_page.specs.declared.fault.PageFault.TheVariants.{Unviewed, Output, OutOfMemory}
 use Rattle.wh_files.specs.Inputs.{IsCalled, IsOf, IsReadFrom, IsSingle}
 use Rattle.wh_files.specs.declared.Input.{Input}
 use Rattle.wh_inputs.specs.Readings.{Gives, IsReadAs}
@@ -34,9 +29,3 @@ pub record HasPagedPath {S : Type 0} (program : Program S) (only_recorded : Bool
   pub from : IsOf path input.origin
   pub single : IsSingle input.origin
   pub paged : HasPagedInput IsReadFrom program only_recorded input old new status
-
--- why there is no page of a file, by the fault of what writes it
-abbrev pub IsUnpaged : (name bytes : List ℕ) → PageFault → Failure → Type 0
-IsUnpaged name bytes (Unviewed fault) failure = IsUnviewed name bytes fault failure
-IsUnpaged name bytes Output failure = failure ≡ failures.Output
-IsUnpaged name bytes OutOfMemory failure = failure ≡ failures.OutOfMemory

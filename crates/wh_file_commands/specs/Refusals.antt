@@ -1,16 +1,15 @@
 -- What stands on a console if a command of a file has no full report, and why it has none.
-use Rattle.std.specs.Prelude.{◌≡◌, ◌≢◌, ◌⊎◌, ℕ, List, false, Err, IsSome, None, Option, string_bytes}
+use Rattle.std.specs.Prelude.{◌≡◌, ◌≢◌, ◌⊎◌, ℕ, List, false, Err, IsOk, IsSome, None, Option, string_bytes}
 use Rattle.std.specs.Io.KnownBytes.{Keeps}
 use Rattle.wh_console.specs.Consoles.{ConsoleView, IsQuiet}
 use Rattle.wh_diagnostics.specs.Failures.{IsReadFailure}
 use Rattle.wh_diagnostics.specs.declared.failures.Failure.{Failure}
-use Rattle.wh_diagnostics.specs.declared.failures.Failure.TheVariants.{BadInput, NotJson, NotViewed, Output, OutOfMemory, Unreadable}
+use Rattle.wh_diagnostics.specs.declared.failures.Failure.TheVariants.{BadInput, NotJson, NotViewed, Output, OutOfMemory}
 use Rattle.wh_file_faults.specs.Faults.{File, IsNoJson}
 use Rattle.wh_files.specs.Inputs.{IsCalled, IsOf, IsReadFrom, IsSingle}
 use Rattle.wh_files.specs.declared.Input.{Input}
 use Rattle.wh_inputs.specs.Listings.{IsUnreadAt}
 use Rattle.wh_inputs.specs.Readings.{Gives, IsReadAs}
-use Rattle.wh_json.specs.Fields.{document}
 use Rattle.wh_json.specs.declared.fault.ReadFault.{ReadFault}
 use Rattle.wh_json.specs.declared.fault.ReadFault.TheVariants as reads
 use Rattle.wh_queryable.specs.declared.queryable.Query.{Query}
@@ -21,41 +20,43 @@ pub record IsRefused (old new : ConsoleView) (failure : Failure) : Type 0 where
   pub quiet : IsQuiet old new
   pub unwritten : failure ≢ Output → Keeps old.output new.output
 
--- an argument of a query is no JSON, or there was no memory to see that
-abbrev pub IsBadQuery : Failure → Type 0
-IsBadQuery failure = (failure ≡ BadInput) ⊎ (failure ≡ OutOfMemory)
+-- an input was read as a file, and what came of that can't be written
+pub record IsUnwritten (gives : Gives) (input : Input) (failure : Failure) : Type 0 where
+  pub file : File
+  pub read : IsReadAs gives input file
+  pub output : failure ≡ Output
 
--- why a query has no full report: an argument is no JSON; or all are, and what is to be queried can't be read, or what
--- came of the query can't be written; or there was no memory
-abbrev pub IsUnqueried : Option Query → Failure → Type 0
-IsUnqueried query BadInput = query ≡ None
-IsUnqueried query (Unreadable dir entry reason) = IsSome query
-IsUnqueried query Output = IsSome query
-IsUnqueried query OutOfMemory = Unit {0}
-IsUnqueried query _ = ⊥
+-- why there is no full report of an input: it can't be read, what came of it can't be written, or there was no memory
+abbrev pub IsUnreportedInput : Gives → Input → Failure → Type 0
+IsUnreportedInput gives input failure = IsReadFailure failure ⊎ IsUnwritten gives input failure
 
--- why the events of a file that is taken for no JSON can't be shown: if it is none, that, and else the fault as it is;
--- or there was no memory to see that
-abbrev pub IsUnviewedJson : (name bytes : List ℕ) → Failure → Type 0
-IsUnviewedJson name bytes (NotJson fault) = (fault.name ≡ name) × IsNoJson bytes fault.cause
-IsUnviewedJson name bytes (NotViewed file fault) = (file ≡ name) × (fault ≡ reads.BadJson) × IsSome (document bytes)
-IsUnviewedJson name bytes OutOfMemory = Unit {0}
-IsUnviewedJson name bytes _ = ⊥
+-- a path names an input, which is no folder, and there is no full report of that
+pub record IsUnreportedAt (path : List ℕ) (failure : Failure) : Type 0 where
+  pub input : Input
+  pub called : IsCalled false input
+  pub from : IsOf path input.origin
+  pub single : IsSingle input.origin
+  pub unreported : IsUnreportedInput IsReadFrom input failure
 
--- why the events of a file can't be shown, by the fault of its bytes
-abbrev pub IsUnviewed : (name bytes : List ℕ) → ReadFault → Failure → Type 0
-IsUnviewed name bytes reads.BadJson failure = IsUnviewedJson name bytes failure
-IsUnviewed name bytes reads.OutOfMemory failure = failure ≡ OutOfMemory
-IsUnviewed name bytes fault failure = failure ≡ NotViewed name fault
+-- why there is no full report of what a path names: nothing can be read there, or there is none of its input
+abbrev pub IsUnreportedPath : List ℕ → Failure → Type 0
+IsUnreportedPath path failure = IsUnreadAt path failure ⊎ IsUnreportedAt path failure
+
+-- why a query has no full report: an argument is no JSON; or all are, and there is no full report of what a path names;
+-- or there was no memory
+abbrev pub IsUnqueriedPath : Option Query → (path : List ℕ) → Failure → Type 0
+IsUnqueriedPath query path BadInput = query ≡ None
+IsUnqueriedPath query path OutOfMemory = Unit {0}
+IsUnqueriedPath query path failure = IsSome query × IsUnreportedPath path failure
 
 -- why nothing is shown of a file by its name and bytes: they are no JSON, they have no list of events for another
--- reason, it can't be written, or there was no memory
+-- reason, they have one and what is shown of it can't be written, or there was no memory
 abbrev pub IsUnshown : (name bytes : List ℕ) → Failure → Type 0
 IsUnshown name bytes (NotJson fault) =
     (fault.name ≡ name) × IsNoJson bytes fault.cause × (members_of bytes ≡ Err reads.BadJson)
 IsUnshown name bytes (NotViewed file fault) =
     (file ≡ name) × (fault ≢ reads.BadJson) × (members_of bytes ≡ Err fault)
-IsUnshown name bytes Output = Unit {0}
+IsUnshown name bytes Output = IsOk (members_of bytes)
 IsUnshown name bytes OutOfMemory = Unit {0}
 IsUnshown name bytes _ = ⊥
 

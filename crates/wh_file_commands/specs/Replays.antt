@@ -31,8 +31,9 @@ pub record HasReported (records : List Record) (format : Format) (lacks : Bool) 
   pub reported : Reported between new (records_lines records)
   pub ends : status ≡ status_with lacks (records_status records)
 
--- inputs were read as files and replayed, progress was reported, and then the report of their records was written, which
--- does not depend on how progress is shown; last the registered workflow types were reported, if a file has another one
+-- inputs were read as files and replayed, progress was reported, and then the report of their records was written,
+-- which does not depend on how progress is shown; last the registered workflow types were reported, if a file has
+-- another one
 pub record HasReplayed {S : Type 0} (gives : Gives) (strict : Bool) (program : Program S) (types : List ℕ)
     (inputs : List Input) (format : Format) (mode : ProgressMode) (lacks : Bool) (old new : ConsoleView) (status : ℕ)
     : Type 0 where
@@ -44,14 +45,23 @@ pub record HasReplayed {S : Type 0} (gives : Gives) (strict : Bool) (program : P
   pub reported : HasReported records format lacks between ended status
   pub known : Reported ended new (known_types_text types (list_any (λ own. lacks_code own.cause) records))
 
--- there is no report, or it can't be written: progress was reported after some batches of what was replayed, and a line
--- that was written over itself erased; nothing more was reported, and nothing written unless the output failed
+-- all inputs were read as files and replayed, and all of progress was reported
+pub record HasReplayedAll {S : Type 0} (gives : Gives) (strict : Bool) (program : Program S) (inputs : List Input)
+    (mode : ProgressMode) (old new : ConsoleView) : Type 0 where
+  pub records : List Record
+  pub found : AreRecordsOf strict program (IsReadAs gives) inputs records
+  pub told : Reported old new (reports_of mode (faulty_of records))
+
+-- there is no report: progress was reported after some batches of what was replayed, what erases a line of it was
+-- written, and nothing more was reported; if the output failed, all inputs were replayed before, and otherwise nothing
+-- was written either
 pub record HasNotReplayed {S : Type 0} (gives : Gives) (strict : Bool) (program : Program S) (inputs : List Input)
     (mode : ProgressMode) (old new : ConsoleView) (failure : Failure) : Type 0 where
   pub between : ConsoleView
   pub stopped : HasStoppedWhole (AreRecordsOf strict program (IsReadAs gives)) faulty_of mode inputs old between
+  pub whole : failure ≡ Output → HasReplayedAll gives strict program inputs mode old between
   pub quiet : IsQuiet between new
-  pub unwritten : failure ≢ Output → new.output ≡ between.output
+  pub unwritten : failure ≢ Output → new ≡ between
   pub why : IsReportFailure failure
 
 -- what paths name was replayed, and progress was reported as some link of the standard error and the option for it have

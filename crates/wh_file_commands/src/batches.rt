@@ -106,7 +106,7 @@ fn check_batches<
 }
 
 /// Replays inputs, and returns their records in their order. Progress is reported between batches,
-/// and a line of it that was written over itself is erased, also if an input can't be read.
+/// and then what erases a line of it that is written over itself, also if an input can't be read.
 pub(crate) fn check_in_batches<
     W: Workflow + Send,
     R: InputReader + AllocGlobal + Threads + Sync,

@@ -1,9 +1,12 @@
 //! The command `explain`.
 
-ghost use Rattle.std.specs.Prelude.{IfErr, IfOk, OnOk, string_bytes};
+ghost use Rattle.std.specs.Prelude.{◌≡◌, IfErr, IfOk, OnOk, string_bytes};
 ghost use Rattle.wh_console.specs.Consoles.{IsQuiet};
+ghost use Rattle.wh_diagnostics.specs.Failures.{IsReportFailure};
 ghost use Rattle.wh_file_commands.specs.Explanations.{HasExplained, HasExplainedInput, HasExplainedPath};
 ghost use Rattle.wh_file_commands.specs.Explanations.{HasReportedFault};
+ghost use Rattle.wh_file_commands.specs.Private.Refusals.{IsWriteFailure};
+ghost use Rattle.wh_file_commands.specs.Refusals.{IsUnreportedInput, IsUnreportedPath};
 ghost use Rattle.wh_file_faults.specs.Faults.{IsFaultOf, IsUnreadCause};
 ghost use Rattle.wh_report.specs.Commands.{IsExplained};
 
@@ -42,6 +45,7 @@ fn report_if_bad<O: Write, E: Write>(
 ) -> Result<(), Failure>
     ensures fault { OnOk result (HasReportedFault line bytes.now console.old console.new) }
     ensures quiet { IfErr result (λ _. IsQuiet console.old console.new) }
+    ensures memory { IfErr result (λ failure. failure ≡ Failure.OutOfMemory) }
 {
     match unread_fault(alloc, line, bytes) {
         Ok(Some(fault)) => console.report(Diagnostic::BadJson { fault }),
@@ -80,6 +84,7 @@ fn explain<W: Workflow, O: Write, E: Write>(
     ensures explained { IfOk result
         (HasExplained W.program (string_bytes name) bytes.now selection format console.old console.new) }
     ensures quiet { IfErr result (λ _. IsQuiet console.old console.new) }
+    ensures unreported { IfErr result IsWriteFailure }
 {
     let line = match print_explanation::<W, O, E>(alloc, name, bytes, selection, format, console) {
         Ok(line) => line,
@@ -101,6 +106,7 @@ fn explain_input<W: Workflow, R: InputReader + AllocGlobal, O: Write, E: Write>(
     ensures explained { IfOk result
         (HasExplainedInput R.gives W.program input selection format console.old console.new) }
     ensures quiet { IfErr result (λ _. IsQuiet console.old console.new) }
+    ensures unreported { IfErr result (IsUnreportedInput R.gives input) }
 {
     let (name, bytes) = file_from(rt, input)?;
     explain::<W, O, E>(
@@ -115,7 +121,10 @@ fn explain_input<W: Workflow, R: InputReader + AllocGlobal, O: Write, E: Write>(
 
 /// Explains the history at a path: the tasks that are selected, or those that matter, and what is
 /// recorded in it if its workflow type is not registered. Once that is out, reports where it is no
-/// JSON. The status is that of its replay. After a failure nothing was reported.
+/// JSON. The status is that of its replay.
+///
+/// `Unreadable` if the history can't be read, and `Output` if the explanation can't be written.
+/// Other than `OutOfMemory` there is no failure but these. After a failure nothing was reported.
 pub fn explain_path<W: Workflow, R: Runtime + AllocGlobal, O: Write, E: Write>(
     rt: &R,
     path: Text,
@@ -125,6 +134,8 @@ pub fn explain_path<W: Workflow, R: Runtime + AllocGlobal, O: Write, E: Write>(
 ) -> Result<u8, Failure>
     ensures explained { IfOk result (HasExplainedPath W.program path selection format console.old console.new) }
     ensures quiet { IfErr result (λ _. IsQuiet console.old console.new) }
+    ensures why { IfErr result IsReportFailure }
+    ensures unreported { IfErr result (IsUnreportedPath path) }
 {
     let input = input_of(rt, path)?;
     explain_input::<W, R, O, E>(rt, input, selection, format, console)

@@ -1,9 +1,10 @@
 //! The command `explain --html`.
 
-ghost use Rattle.std.specs.Prelude.{◌≡◌, ◌≢◌, ◌↔◌, Err, IfErr, IfOk, string_bytes};
+ghost use Rattle.std.specs.Prelude.{◌≡◌, ◌≢◌, ◌↔◌, Err, IfErr, IfOk, IsOk, string_bytes};
 ghost use Rattle.std.specs.Io.KnownBytes.{Keeps};
 ghost use Rattle.wh_console.specs.Consoles.{IsQuiet};
-ghost use Rattle.wh_file_commands.specs.Pages.{HasPaged, HasPagedInput, HasPagedPath, IsUnpaged};
+ghost use Rattle.wh_file_commands.specs.Pages.{HasPaged, HasPagedInput, HasPagedPath};
+ghost use Rattle.wh_file_commands.specs.Private.Refusals.{IsUnpaged};
 ghost use Rattle.wh_file_commands.specs.Refusals.{IsRefused, IsUnshown, IsUnshownInput, IsUnshownPath};
 ghost use Rattle.wh_file_page.specs.Pages.{IsPaged};
 ghost use Rattle.wh_json.specs.declared.fault.ReadFault.{ReadFault};
@@ -36,6 +37,7 @@ fn print_page<W: Workflow, O: Write, E: Write>(
         → Keeps console.old.output console.new.output) }
     ensures unviewed { (fault : ReadFault) → result ≡ Err (PageFault.Unviewed fault)
         → members_of bytes.now ≡ Err fault }
+    ensures output { result ≡ Err PageFault.Output → IsOk (members_of bytes.now) }
 {
     page_command::<W, Outlet<O>>(alloc, name, bytes, only_recorded, &mut console.output)
 }
@@ -91,9 +93,9 @@ fn page_input<W: Workflow, R: InputReader + AllocGlobal, O: Write, E: Write>(
 /// is 0.
 ///
 /// `Unreadable` if it can't be read. `NotJson` if it is not JSON, and `NotViewed` if it has no list
-/// of events for another reason. `Output` if the page can't be written. Other than `OutOfMemory`
-/// there is no failure but these. After a failure nothing was reported, and nothing was written
-/// unless it is `Output`.
+/// of events for another reason. `Output` if it has one, and the page can't be written. Other than
+/// `OutOfMemory` there is no failure but these. After a failure nothing was reported, and nothing
+/// was written unless it is `Output`.
 pub fn page_path<W: Workflow, R: Runtime + AllocGlobal, O: Write, E: Write>(
     rt: &R,
     path: Text,

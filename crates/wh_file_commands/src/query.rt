@@ -1,9 +1,10 @@
 //! The command `query`.
 
-ghost use Rattle.std.specs.Prelude.{◌≡◌, Err, IfErr, IfOk, None, Some};
+ghost use Rattle.std.specs.Prelude.{◌≡◌, Err, IfErr, IfOk, Some};
 ghost use Rattle.wh_console.specs.Consoles.{IsQuiet, Printed};
+ghost use Rattle.wh_file_commands.specs.Private.Refusals.{IsUnasked, IsWriteFailure};
 ghost use Rattle.wh_file_commands.specs.Queries.{HasQueried, HasQueriedInput, HasQueriedPath};
-ghost use Rattle.wh_file_commands.specs.Refusals.{IsBadQuery, IsRefused, IsUnqueried};
+ghost use Rattle.wh_file_commands.specs.Refusals.{IsRefused, IsUnqueriedPath, IsUnreportedInput};
 ghost use Rattle.wh_query_report.specs.Inputs.{query_of};
 ghost use Rattle.wh_query_report.specs.Queried.{IsQueried};
 ghost use Rattle.wh_query_report.specs.Texts.{queried_as};
@@ -50,7 +51,7 @@ fn query_file<W: Queryable, O: Write, E: Write>(
     ensures queried { IfOk result
         (HasQueried W.program W.queries types.now file query.now format console.old console.new) }
     ensures refused { IfErr result (IsRefused console.old console.new) }
-    ensures why { IfErr result (IsUnqueried (Some query.now)) }
+    ensures unreported { IfErr result IsWriteFailure }
 {
     let queried = match print_query::<W, O, E>(alloc, file, query, format, console) {
         Ok(queried) => queried,
@@ -76,7 +77,7 @@ fn query_input<W: Queryable, R: InputReader + AllocGlobal, O: Write, E: Write>(
     ensures queried { IfOk result (HasQueriedInput R.gives W.program W.queries types.now input query.now format
         console.old console.new) }
     ensures refused { IfErr result (IsRefused console.old console.new) }
-    ensures why { IfErr result (IsUnqueried (Some query.now)) }
+    ensures unreported { IfErr result (IsUnreportedInput R.gives input) }
 {
     let file = file_from(rt, input)?;
     query_file::<W, O, E>(rt.alloc(), file, query, format, types, console)
@@ -85,8 +86,7 @@ fn query_input<W: Queryable, R: InputReader + AllocGlobal, O: Write, E: Write>(
 /// The query that words of the command line ask for.
 fn query_asked(alloc: Global, query_type: Text, words: Vec<Text>) -> Result<Query, Failure>
     ensures query { IfOk result (λ query. query_of query_type words.items ≡ Some query) }
-    ensures bad { IfErr result IsBadQuery }
-    ensures why { IfErr result (IsUnqueried (query_of query_type words.items)) }
+    ensures why { IfErr result (IsUnasked (query_of query_type words.items)) }
 {
     match query_of(alloc, query_type, words.as_slice()) {
         Ok(Some(query)) => Ok(query),
@@ -114,8 +114,7 @@ pub fn query_path<W: Queryable, R: Runtime + AllocGlobal, O: Write, E: Write>(
     ensures queried { IfOk result (HasQueriedPath W.program W.queries types.now path query_type words.items format
         console.old console.new) }
     ensures refused { IfErr result (IsRefused console.old console.new) }
-    ensures bad { query_of query_type words.items ≡ None → IfErr result IsBadQuery }
-    ensures why { IfErr result (IsUnqueried (query_of query_type words.items)) }
+    ensures why { IfErr result (IsUnqueriedPath (query_of query_type words.items) path) }
 {
     let query = query_asked(rt.alloc(), query_type, words)?;
     let input = input_of(rt, path)?;

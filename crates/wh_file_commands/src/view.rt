@@ -2,8 +2,8 @@
 
 ghost use Rattle.std.specs.Prelude.{◌≡◌, IfErr, IfOk, OnOk, string_bytes};
 ghost use Rattle.wh_console.specs.Consoles.{IsQuiet, Printed};
+ghost use Rattle.wh_file_commands.specs.Private.Refusals.{IsUnviewed, IsUnviewedJson};
 ghost use Rattle.wh_file_commands.specs.Refusals.{IsRefused, IsUnshown, IsUnshownInput, IsUnshownPath};
-ghost use Rattle.wh_file_commands.specs.Refusals.{IsUnviewed, IsUnviewedJson};
 ghost use Rattle.wh_file_commands.specs.Views.{HasViewed, HasViewedInput, HasViewedPath};
 ghost use Rattle.wh_report.specs.Commands.{view_as};
 
@@ -112,9 +112,9 @@ fn view_input<R: InputReader + AllocGlobal, O: Write, E: Write>(
 /// replayed. The status is 0.
 ///
 /// `Unreadable` if it can't be read. `NotJson` if it is not JSON, and `NotViewed` if it has no list
-/// of events for another reason. `Output` if the text can't be written. Other than `OutOfMemory`
-/// there is no failure but these. After a failure nothing was reported, and nothing was written
-/// unless it is `Output`.
+/// of events for another reason. `Output` if it has one, and the text can't be written. Other than
+/// `OutOfMemory` there is no failure but these. After a failure nothing was reported, and nothing
+/// was written unless it is `Output`.
 pub fn view_path<R: Runtime + AllocGlobal, O: Write, E: Write>(
     rt: &R,
     path: Text,

@@ -1,6 +1,6 @@
 //! The page of a history file is written.
 
-ghost use Rattle.std.specs.Prelude.{◌≡◌, ◌≢◌, Err, IfErr, IfOk, OnOk};
+ghost use Rattle.std.specs.Prelude.{◌≡◌, ◌≢◌, Err, IfErr, IfOk, IsOk, OnOk};
 ghost use Rattle.std.specs.Io.KnownBytes.{Appends};
 ghost use Rattle.wh_file_page.specs.Pages.{IsPageOf, IsPaged};
 ghost use Rattle.wh_file_page.specs.RunTables.{IsTableOf, table_html};
@@ -97,7 +97,8 @@ fn write_page<O: Write>(own: &Prepared, writer: &mut O) -> io::Result<()>
 /// on `W`. Otherwise, and with `only_recorded`, the page has no table.
 ///
 /// `Unviewed` if the bytes have no list of events. Nothing is written then, nor if the answer
-/// is `OutOfMemory`; after `Output` some of the page may have been written.
+/// is `OutOfMemory`. `Output` if they have one, and the page can't be written; some of it may have
+/// been written then.
 pub fn page_command<W: Workflow, O: Write>(
     alloc: Global,
     name: &str,
@@ -109,6 +110,7 @@ pub fn page_command<W: Workflow, O: Write>(
         (O.contents writer.old) (O.contents writer.new)) }
     ensures unviewed { (fault : ReadFault) → result ≡ Err (PageFault.Unviewed fault)
         → members_of bytes.now ≡ Err fault }
+    ensures output { result ≡ Err PageFault.Output → IsOk (members_of bytes.now) }
     ensures unwritten { IfErr result (λ fault. fault ≢ PageFault.Output → writer.new ≡ writer.old) }
 {
     let view = viewed(alloc, bytes)?;

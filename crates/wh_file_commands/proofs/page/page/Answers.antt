@@ -1,8 +1,9 @@
 use Rattle.std.proofs.Common.{ap, refl}
-use Rattle.std.specs.Prelude.{Err, Ok, string_bytes}
+use Rattle.std.specs.Prelude.{Err, Ok, is_ok, string_bytes}
 use Rattle.wh_file_commands.proofs.Refused.{output_failed}
 use Rattle.wh_file_commands.proofs.Steps.{page_ended}
 use Rattle.wh_file_commands.proofs.Unpaged.{unpaged_shown}
+use Rattle.wh_file_commands.proofs.Unshown.{unwritten_shown}
 use Rattle.wh_file_commands.proofs.page.page.Goals as goal
 
 -- the page is out
@@ -19,6 +20,12 @@ returns-in-Ok-clause-refused g c =
     output_failed c.args.console.now c.print_page.new.console c.flushed.new.console c.flushed.result
     c.in-Ok.ensures.quiet c.flushed.ensures.quiet c.flushed.ensures.failure
 
+-- and then its bytes have events
+pub returns-in-Ok-clause-why : goal.returns-in-Ok-clause-why
+returns-in-Ok-clause-why g c =
+    unwritten_shown (string_bytes c.args.name) c.args.bytes.now c.flushed.result
+    (ap is_ok c.in-Ok.ensures.paged.viewed.reads) c.flushed.ensures.failure
+
 -- or there is no page
 pub returns-in-Err-clause-refused : goal.returns-in-Err-clause-refused
 returns-in-Err-clause-refused g c = record {
@@ -31,4 +38,5 @@ pub returns-in-Err-clause-why : goal.returns-in-Err-clause-why
 returns-in-Err-clause-why g c =
     let name = string_bytes c.args.name in
     let fault = c.in-Err.fault in
-    unpaged_shown name c.args.bytes.now fault c.failure_of.result (λ own is. c.in-Err.ensures.unviewed own (ap Err is)) c.failure_of.ensures.why
+    unpaged_shown name c.args.bytes.now fault c.failure_of.result (λ own is. c.in-Err.ensures.unviewed own (ap Err is))
+    (λ is. c.in-Err.ensures.output (ap Err is)) c.failure_of.ensures.why

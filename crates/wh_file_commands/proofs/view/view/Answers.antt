@@ -1,11 +1,11 @@
-use Rattle.std.proofs.Common.{subst}
-use Rattle.std.specs.Prelude.{string_bytes}
+use Rattle.std.proofs.Common.{ap, subst}
+use Rattle.std.specs.Prelude.{is_ok, string_bytes}
 use Rattle.wh_report.specs.Commands.{view_as}
 use Rattle.wh_diagnostics.proofs.Printed.{text_printed}
 use Rattle.wh_file_commands.proofs.Refused.{output_failed, writer_failed}
 use Rattle.wh_file_commands.proofs.Steps.{view_printed}
-use Rattle.wh_file_commands.proofs.Unshown.{unviewed_shown}
-use Rattle.wh_file_commands.specs.Refusals.{IsUnviewed}
+use Rattle.wh_file_commands.proofs.Unshown.{unviewed_shown, unwritten_shown}
+use Rattle.wh_file_commands.specs.Private.Refusals.{IsUnviewed}
 use Rattle.wh_file_commands.proofs.view.view.Goals as goal
 
 -- what was printed is the text of the view, and it is out
@@ -21,6 +21,12 @@ pub returns-clause-refused : goal.returns-clause-refused
 returns-clause-refused g c =
     output_failed c.args.console.now c.print_view-answer.new.console c.flushed.new.console c.flushed.result
     c.print_view-answer.ensures.quiet c.flushed.ensures.quiet
+    (writer_failed c.print_view-answer.result c.flushed.result c.print_view-answer.ensures.output c.flushed.ensures.failure)
+
+-- and then its bytes have events
+pub returns-clause-why : goal.returns-clause-why
+returns-clause-why g c =
+    unwritten_shown (string_bytes c.args.name) c.args.bytes.now c.flushed.result (ap is_ok c.in-Ok.ensures.ok.reads)
     (writer_failed c.print_view-answer.result c.flushed.result c.print_view-answer.ensures.output c.flushed.ensures.failure)
 
 -- or there is no view
