@@ -41,6 +41,8 @@ fn print_text<O: Write, E: Write>(
 ) -> Result<u8, CommandFault>
     ensures printed { OnOk result (Printed console.old console.new text.now) }
     ensures ends { IfOk result (λ status. status ≡ 0) }
+    ensures output { IfErr result (λ fault. fault ≡ CommandFault.Output) }
+    ensures quiet { IsQuiet console.old console.new }
 {
     match write!(console.output, "{text}") {
         Ok(()) => Ok(0),
@@ -48,10 +50,13 @@ fn print_text<O: Write, E: Write>(
     }
 }
 
-/// Prints a text that the command line asks for, and returns status 0. Returns `Output` if the text
-/// can't be written; part of it may have been written.
+/// Prints a text that the command line asks for, and returns status 0. Nothing is reported. Returns
+/// `Output` if the text can't be written; part of it may have been written. There is no other
+/// failure.
 pub fn print<O: Write, E: Write>(text: &str, console: &mut Console<'_, O, E>) -> Result<u8, Failure>
     ensures printed { IfOk result (HasPrinted text.now console.old console.new) }
+    ensures output { IfErr result (λ failure. failure ≡ Failure.Output) }
+    ensures quiet { IsQuiet console.old console.new }
 {
     let answer = print_text(text, console);
     flushed(answer, console)

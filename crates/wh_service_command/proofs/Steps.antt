@@ -4,6 +4,8 @@ use Rattle.std.specs.Prelude.{Bool, false, Option, Result, Ok, Err, IfErr, IfOk}
 use Rattle.std.specs.Io.KnownBytes.{Keeps}
 use Rattle.wh_console.proofs.Printing.{quiet_twice, written_kept}
 use Rattle.wh_console.specs.Consoles.{ConsoleView, IsQuiet, Reported}
+use Rattle.wh_diagnostics.proofs.ReadFailures.{unread_unreported}
+use Rattle.wh_diagnostics.specs.Failures.{IsReadFailure, IsReportFailure}
 use Rattle.wh_diagnostics.specs.Printing.{status_with}
 use Rattle.wh_diagnostics.specs.declared.failures.Failure.{Failure}
 use Rattle.wh_file_faults.specs.Faults.{AreFaultsOf}
@@ -24,7 +26,7 @@ use Rattle.wh_service.specs.Services.{HostsBy, IsEndOf, IsHosted, IsServiceEnd}
 use Rattle.wh_service.specs.declared.readings.ReadFiles.{ReadFiles}
 use Rattle.wh_service.specs.declared.service.Served.{Served}
 use Rattle.wh_service.specs.declared.service.ServiceEnd.{ServiceEnd}
-use Rattle.wh_service_command.specs.Commands.{faulty_in, HasEnded, HasFinished, HasNotServed, HasNotServedFolder, HasServed, HasServedAll, HasServedFolder, IsCutOff}
+use Rattle.wh_service_command.specs.Commands.{faulty_in, HasEnded, HasFinished, HasNotServed, HasNotServedFolder, HasReadAll, HasServed, HasServedAll, HasServedFolder, IsCutOff}
 use Rattle.wh_workflow.specs.Law.{Program}
 
 -- what was written of a service stays
@@ -73,6 +75,19 @@ served_all gives program types hosts config sizes inputs mode lines lacks old re
       ends = ended.ends;
     }
 
+-- all inputs were read, and progress was reported
+all_read : {S : Type 0} (gives : Gives) (program : Program S) (hosts : HostsBy) (config : Config) (inputs : List Input) (mode : ProgressMode) (lines : ℕ) (old read first : ConsoleView) (served : Served)
+    → lines ≡ reported_batches mode (length inputs)
+    → HasServed gives program hosts config inputs mode old read served
+    → Reported read first (end_text mode lines)
+    → HasReadAll gives inputs mode old first
+all_read gives program hosts config inputs mode lines old read first served many h erased = record {
+  files = h.found.files;
+  from = h.found.from;
+  told = subst (λ l. Reported old first (reports_of mode (faulty_of l))) h.found.readings
+      (told_in_all (HasRead (IsReadAs gives) program) faulty_in mode inputs lines h.read old read first (marked gives program) many h.found h.reported erased);
+}
+
 -- what was served can't be written
 pub cut_off : {S : Type 0} (gives : Gives) (program : Program S) (hosts : HostsBy) (config : Config) (inputs : List Input) (mode : ProgressMode) (lines : ℕ) (old read first new : ConsoleView) (served : Served) (failure : Failure)
     → lines ≡ reported_batches mode (length inputs)
@@ -86,6 +101,8 @@ cut_off gives program hosts config inputs mode lines old read first new served f
       (stopped_after_all (HasRead (IsReadAs gives) program) faulty_in mode inputs h.read old read h.found h.reported) erased;
   quiet = cut.1;
   unwritten = λ other. absurd (other cut.0);
+  why = subst IsReportFailure (sym cut.0) tt;
+  read = λ is. all_read gives program hosts config inputs mode lines old read first served many h erased;
 }
 
 -- so it is with what the rest of the command gives
@@ -115,12 +132,15 @@ pub not_served : {S : Type 0} (gives : Gives) (program : Program S) (inputs : Li
     → lines ≡ reported_batches mode (length inputs)
     → HasStopped (HasRead (IsReadAs gives) program) faulty_in mode inputs old read
     → Reported read new (end_text mode lines)
+    → IsReadFailure failure
     → HasNotServed gives program inputs mode old new failure
-not_served gives program inputs mode lines old read new failure many stopped erased = record {
+not_served gives program inputs mode lines old read new failure many stopped erased why = record {
   between = new;
   stopped = stopped_whole (HasRead (IsReadAs gives) program) faulty_in mode inputs lines old read new many stopped erased;
   quiet = record { named = refl; errors = refl; whole = refl };
   unwritten = λ other. refl;
+  why = unread_unreported failure why;
+  read = λ is. absurd (subst IsReadFailure is why);
 }
 
 -- all was read, but not served

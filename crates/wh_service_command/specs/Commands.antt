@@ -3,6 +3,7 @@ use Rattle.std.specs.Prelude.{◌≡◌, ◌≢◌, ◌⊎◌, ℕ, List, length
 use Rattle.std.specs.Io.KnownBytes.{Keeps}
 use Rattle.std.specs.List.{AllZip}
 use Rattle.wh_console.specs.Consoles.{ConsoleView, IsQuiet, Reported}
+use Rattle.wh_diagnostics.specs.Failures.{IsReportFailure}
 use Rattle.wh_diagnostics.specs.Printing.{status_with}
 use Rattle.wh_diagnostics.specs.declared.failures.Failure.{Failure}
 use Rattle.wh_diagnostics.specs.declared.failures.Failure.TheVariants.{Output}
@@ -87,15 +88,25 @@ pub record HasServedAll {S : Type 0} (gives : Gives) (program : Program S) (type
   pub known : Reported ended new (known_types_text types (lacks_code end))
   pub ends : status ≡ status_with lacks end.status
 
+-- inputs were read as files, in their order, and progress was reported, by which of them have no history that can be
+-- read
+pub record HasReadAll (gives : Gives) (inputs : List Input) (mode : ProgressMode) (old new : ConsoleView)
+    : Type 0 where
+  pub files : List File
+  pub from : AllZip (IsReadAs gives) inputs files
+  pub told : Reported old new (reports_of mode (faulty_of (map reading_of files)))
+
 -- there is no report of a service, or it can't be written: progress was reported after some batches of what was read,
 -- and a line that was written over itself erased; nothing more was reported, and nothing written unless the output
--- failed
+-- failed, which it does only if all inputs were read
 pub record HasNotServed {S : Type 0} (gives : Gives) (program : Program S) (inputs : List Input)
     (mode : ProgressMode) (old new : ConsoleView) (failure : Failure) : Type 0 where
   pub between : ConsoleView
   pub stopped : HasStoppedWhole (HasRead (IsReadAs gives) program) faulty_in mode inputs old between
   pub quiet : IsQuiet between new
   pub unwritten : failure ≢ Output → new ≡ between
+  pub why : IsReportFailure failure
+  pub read : failure ≡ Output → HasReadAll gives inputs mode old between
 
 -- the files of a folder were served by a host of these sizes, and progress was reported as the link of the standard
 -- error and the option for it have it

@@ -3,6 +3,7 @@
 ghost use Rattle.std.specs.Prelude.{◌≡◌, IfErr, IfOk, vec_len};
 ghost use Rattle.wh_command_line.specs.Options.{sizes_of};
 ghost use Rattle.wh_console.specs.Consoles.{IsQuiet};
+ghost use Rattle.wh_diagnostics.specs.Failures.{IsReadFailure};
 ghost use Rattle.wh_host.specs.Machine.{IsConfig};
 ghost use Rattle.wh_inputs.specs.Readings.{IsReadAs};
 ghost use Rattle.wh_progress.specs.Batches.{HasStopped};
@@ -100,6 +101,7 @@ where
         console.old console.new) }
     ensures stopped { IfErr result (λ _. HasStopped (HasRead (IsReadAs R.gives) W.program) faulty_in mode
         inputs.items console.old console.new) }
+    ensures why { IfErr result IsReadFailure }
 {
     let read = read_batches::<W, R, O, E>(rt, inputs, mode, console)?;
     match serve_read(rt.alloc(), read, config, host) {
@@ -154,7 +156,9 @@ where
 /// are, unless they are empty.
 ///
 /// `Unreadable` if the folder or one of its files can't be read; progress may have been reported
-/// then, and nothing is written, as with `OutOfMemory`. `Output` if the report can't be written.
+/// then, and nothing is written, as with `OutOfMemory`. `Output` if the report can't be written: all
+/// files have been read then, and progress has been reported to its end. There is no other failure.
+/// After a failure nothing was reported but what is left out and progress.
 pub fn serve_folder<
     W: Workflow + Send,
     R: Runtime + AllocGlobal + Threads + Wait + Sync,

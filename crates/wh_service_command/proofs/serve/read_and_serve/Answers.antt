@@ -1,3 +1,4 @@
+use Rattle.wh_diagnostics.proofs.ReadFailures.{input_unread}
 use Rattle.wh_progress.proofs.Batched.{stopped_if}
 use Rattle.wh_service_command.proofs.Steps.{read_alone}
 use Rattle.wh_service_command.proofs.serve.read_and_serve.Goals as goal
@@ -20,3 +21,7 @@ returns-in-Ok-clause-served g c = record {
 -- not all was read
 pub returns-in_err-read-clause-stopped : goal.returns-in_err-read-clause-stopped
 returns-in_err-read-clause-stopped g c = stopped_if c.from_residual.result c.in_err-read.ensures.stopped
+
+-- and the failure tells why
+pub returns-in_err-read-clause-why : goal.returns-in_err-read-clause-why
+returns-in_err-read-clause-why g c = input_unread c.in_err-read.field-0.0 c.from_residual.result c.from_residual.ensures.1

@@ -30,4 +30,4 @@ returns-in-Err-clause-stopped g c =
     not_served g.R.InputReader.gives g.W.Workflow.program c.args.inputs.items c.args.mode c.reported_batches-lines.result
     c.args.console.now c.read_and_serve-served.new.console c.report.new.self c.in-Err.failure
     (c.reported_batches-lines.ensures.batches ∙ ap (reported_batches c.args.mode) (c.len.ensures ∙ c.args.inputs.ok.0))
-    c.in-Err.ensures.stopped c.report.ensures
+    c.in-Err.ensures.stopped c.report.ensures c.in-Err.ensures.why
