@@ -19,7 +19,7 @@ use Rattle.wh_table_check.specs.Texts.{report_as}
 use Rattle.wh_table_check.specs.declared.checking.Checked.{Checked}
 use Rattle.wh_table_check.specs.declared.commands.TableFile.{TableFile}
 use Rattle.wh_table_commands.specs.Checks.{Finds, HasChecked, HasCheckedAll, HasCheckedPaths}
-use Rattle.wh_table_commands.specs.Files.{IsTableOf}
+use Rattle.wh_table_commands.specs.Files.{IsTableAt, IsTableOf}
 use Rattle.wh_table_commands.specs.Pictures.{HasDrawn, HasDrawnPath}
 use Rattle.wh_table_commands.specs.Trials.{HasTried, HasTriedPath, IsScenario}
 use Rattle.wh_table_picture.specs.Drawings.{drawing_of}
@@ -95,13 +95,17 @@ picture_ended finds file old first new drawing (Ok status) answer given is check
     }
 picture_ended finds file old first new drawing (Err failure) answer given is checked printed quiet kept is_given made is_status = tt
 
+-- the file at a path was read as a table
+pub table_at : (path : List ℕ) (input : Input) (file : TableFile)
+    → IsCalled false input → IsOf path input.origin → IsSingle input.origin → IsTableOf IsReadFrom input file → IsTableAt path file
+table_at path input file called from single read =
+    record { input = input; found = record { called = called; from = from; single = single }; read = read }
+
 -- the file at a path was drawn
-pub drawn_path : (finds : Finds) (path : List ℕ) (input : Input) (file : TableFile) (old new : ConsoleView) (answer : Result ℕ Failure)
-    → IsCalled false input → IsOf path input.origin → IsSingle input.origin → IsTableOf IsReadFrom input file
-    → IfOk answer (HasDrawn finds file old new) → IfOk answer (HasDrawnPath finds path old new)
-drawn_path finds path input file old new (Ok status) called from single read h =
-    record { input = input; called = called; from = from; single = single; file = file; read = read; drawn = h }
-drawn_path finds path input file old new (Err failure) called from single read h = tt
+pub drawn_path : (finds : Finds) (path : List ℕ) (file : TableFile) (old new : ConsoleView) (answer : Result ℕ Failure)
+    → IsTableAt path file → IfOk answer (HasDrawn finds file old new) → IfOk answer (HasDrawnPath finds path old new)
+drawn_path finds path file old new (Ok status) read h = record { file = file; read = read; drawn = h }
+drawn_path finds path file old new (Err failure) read h = tt
 
 -- the result of a trial was printed and flushed
 pub trial_ended : (file : TableFile) (scenario : List ℕ) (old first new : ConsoleView) (own : Trial) (result : Result ℕ Failure) (answer : Result ℕ CommandFault) (given : ℕ)
@@ -118,9 +122,9 @@ trial_ended file scenario old first new own (Ok status) answer given is printed 
 trial_ended file scenario old first new own (Err failure) answer given is printed quiet kept is_given made is_status = tt
 
 -- the file at a path was tried
-pub tried_path : (path : List ℕ) (given : Option (List ℕ)) (input : Input) (file : TableFile) (scenario : List ℕ) (old new : ConsoleView) (answer : Result ℕ Failure)
-    → IsCalled false input → IsOf path input.origin → IsSingle input.origin → IsTableOf IsReadFrom input file → IsScenario path given scenario
+pub tried_path : (path : List ℕ) (given : Option (List ℕ)) (file : TableFile) (scenario : List ℕ) (old new : ConsoleView) (answer : Result ℕ Failure)
+    → IsTableAt path file → IsScenario path given scenario
     → IfOk answer (HasTried file scenario old new) → IfOk answer (HasTriedPath path given old new)
-tried_path path given input file scenario old new (Ok status) called from single read found h =
-    record { input = input; called = called; from = from; single = single; file = file; read = read; scenario = scenario; found = found; tried = h }
-tried_path path given input file scenario old new (Err failure) called from single read found h = tt
+tried_path path given file scenario old new (Ok status) read found h =
+    record { file = file; read = read; scenario = scenario; found = found; tried = h }
+tried_path path given file scenario old new (Err failure) read found h = tt

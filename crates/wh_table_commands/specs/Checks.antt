@@ -1,12 +1,16 @@
 -- What a check of tables writes, and its status.
-use Rattle.std.specs.Prelude.{◌≡◌, ℕ, List, ◌∷◌, Bool, false}
+use Rattle.std.specs.Prelude.{◌≡◌, ◌≢◌, ◌⊎◌, ℕ, List, ◌∷◌, Bool, false}
+use Rattle.std.specs.Io.KnownBytes.{Keeps}
 use Rattle.std.specs.List.{AllZip}
-use Rattle.wh_console.specs.Consoles.{ConsoleView, Printed}
+use Rattle.wh_console.specs.Consoles.{ConsoleView, IsQuiet, Printed}
 use Rattle.wh_console.specs.declared.format.Format.{Format}
+use Rattle.wh_diagnostics.specs.Failures.{IsReadFailure}
 use Rattle.wh_diagnostics.specs.Printing.{status_with}
+use Rattle.wh_diagnostics.specs.declared.failures.Failure.{Failure}
+use Rattle.wh_diagnostics.specs.declared.failures.Failure.TheVariants.{Output}
 use Rattle.wh_files.specs.Inputs.{IsReadFrom}
 use Rattle.wh_files.specs.declared.Input.{Input}
-use Rattle.wh_inputs.specs.Listings.{AreListed, is_by_path, lacks_files}
+use Rattle.wh_inputs.specs.Listings.{AreListed, AreUnlisted, is_by_path, lacks_files}
 use Rattle.wh_inputs.specs.Readings.{Gives}
 use Rattle.wh_table_check.specs.Checks.{AreChecked, status_of}
 use Rattle.wh_table_check.specs.Texts.{report_as}
@@ -43,3 +47,32 @@ pub record HasCheckedPaths (finds : Finds) (first : List ℕ) (others : List (Li
   pub between : ConsoleView
   pub listed : AreListed (is_by_path others) (first ∷ others) inputs left_out old between
   pub checked : HasCheckedAll IsReadFrom finds inputs format (lacks_files left_out false inputs) between new status
+
+-- inputs were read as the files of tables, and the report of their check can't be written
+abbrev pub IsUnwrittenCheck : Gives → List Input → Failure → Type 0
+IsUnwrittenCheck gives inputs failure =
+    (files : List TableFile) × AllZip (IsTableOf gives) inputs files × (failure ≡ Output)
+
+-- inputs were not checked: one can't be read, there was no memory, or the report can't be written; nothing was
+-- reported, and nothing written unless the output failed
+pub record HasNotCheckedAll (gives : Gives) (inputs : List Input) (old new : ConsoleView) (failure : Failure)
+    : Type 0 where
+  pub quiet : IsQuiet old new
+  pub unwritten : failure ≢ Output → Keeps old.output new.output
+  pub why : IsReadFailure failure ⊎ IsUnwrittenCheck gives inputs failure
+
+-- what paths name was listed, and not checked
+pub record HasStoppedAtPaths (first : List ℕ) (others : List (List ℕ)) (old new : ConsoleView)
+    (failure : Failure) : Type 0 where
+  pub inputs : List Input
+  pub left_out : Bool
+  pub between : ConsoleView
+  pub listed : AreListed (is_by_path others) (first ∷ others) inputs left_out old between
+  pub stopped : HasNotCheckedAll IsReadFrom inputs between new failure
+
+-- why the files at paths were not checked: one of the paths can't be listed, or the check stopped
+abbrev pub HasNotCheckedPaths : (first : List ℕ) → (others : List (List ℕ)) → (old new : ConsoleView) → Failure
+    → Type 0
+HasNotCheckedPaths first others old new failure =
+    AreUnlisted (is_by_path others) (first ∷ others) old new failure
+    ⊎ HasStoppedAtPaths first others old new failure

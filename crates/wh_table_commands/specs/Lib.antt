@@ -1,4 +1,5 @@
 pub mod Checks
 pub mod Files
 pub mod Pictures
+pub mod Refusals
 pub mod Trials

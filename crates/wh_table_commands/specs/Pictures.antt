@@ -1,14 +1,12 @@
 -- What the page of a table shows, and its status.
-use Rattle.std.specs.Prelude.{◌≡◌, ℕ, List, [], ◌∷◌, false}
+use Rattle.std.specs.Prelude.{◌≡◌, ℕ, List, [], ◌∷◌}
 use Rattle.wh_console.specs.Consoles.{ConsoleView, Printed}
-use Rattle.wh_files.specs.Inputs.{IsCalled, IsOf, IsReadFrom, IsSingle}
-use Rattle.wh_files.specs.declared.Input.{Input}
 use Rattle.wh_html.specs.Html.{bytes}
 use Rattle.wh_table_check.specs.Checks.{IsChecked, status_of}
 use Rattle.wh_table_check.specs.declared.checking.Checked.{Checked}
 use Rattle.wh_table_check.specs.declared.commands.TableFile.{TableFile}
 use Rattle.wh_table_commands.specs.Checks.{Finds}
-use Rattle.wh_table_commands.specs.Files.{IsTableOf}
+use Rattle.wh_table_commands.specs.Files.{IsTableAt}
 use Rattle.wh_table_picture.specs.Drawings.{drawing_of}
 use Rattle.wh_table_picture.specs.Pages.{page_html}
 
@@ -21,10 +19,6 @@ pub record HasDrawn (finds : Finds) (file : TableFile) (old new : ConsoleView) (
 
 -- the file at a path, which is not a folder, was read as a table, and its page was written
 pub record HasDrawnPath (finds : Finds) (path : List ℕ) (old new : ConsoleView) (status : ℕ) : Type 0 where
-  pub input : Input
-  pub called : IsCalled false input
-  pub from : IsOf path input.origin
-  pub single : IsSingle input.origin
   pub file : TableFile
-  pub read : IsTableOf IsReadFrom input file
+  pub read : IsTableAt path file
   pub drawn : HasDrawn finds file old new status

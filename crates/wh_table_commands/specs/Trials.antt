@@ -1,12 +1,9 @@
 -- What a trial of a table writes, and its status.
-use Rattle.std.specs.Prelude.{◌≡◌, ◌≢◌, ◌⊎◌, ℕ, List, ◌++◌, false, Option, Some, None, codes}
+use Rattle.std.specs.Prelude.{◌≡◌, ◌≢◌, ◌⊎◌, ℕ, List, ◌++◌, Option, Some, None, codes}
 use Rattle.wh_console.specs.Consoles.{ConsoleView, Printed}
 use Rattle.wh_file_faults.specs.Faults.{File}
-use Rattle.wh_files.specs.Inputs.{IsCalled, IsOf, IsReadFrom, IsSingle}
-use Rattle.wh_files.specs.declared.Input.{Input}
-use Rattle.wh_inputs.specs.Readings.{IsReadAs}
 use Rattle.wh_table_check.specs.declared.commands.TableFile.{TableFile}
-use Rattle.wh_table_commands.specs.Files.{IsTableOf}
+use Rattle.wh_table_commands.specs.Files.{IsFileAt, IsTableAt}
 use Rattle.wh_table_trial.specs.Commands.{status_of}
 use Rattle.wh_table_trial.specs.Texts.{trial_text}
 use Rattle.wh_table_trial.specs.Trials.{trial}
@@ -29,11 +26,8 @@ pub record IsBeside (path other : List ℕ) : Type 0 where
 
 -- the text is the content of the file at a path
 pub record IsTextAt (path text : List ℕ) : Type 0 where
-  pub input : Input
-  pub from : IsOf path input.origin
-  pub single : IsSingle input.origin
   pub file : File
-  pub read : IsReadAs IsReadFrom input file
+  pub read : IsFileAt path file
   pub holds : text ≡ file.1.items
 
 -- the scenario is the one that is given, or else the content of the file beside the table
@@ -43,12 +37,8 @@ IsScenario path None scenario = (other : List ℕ) × IsBeside path other × IsT
 
 -- the file at a path, which is not a folder, was read as a table, and that was tried
 pub record HasTriedPath (path : List ℕ) (given : Option (List ℕ)) (old new : ConsoleView) (status : ℕ) : Type 0 where
-  pub input : Input
-  pub called : IsCalled false input
-  pub from : IsOf path input.origin
-  pub single : IsSingle input.origin
   pub file : TableFile
-  pub read : IsTableOf IsReadFrom input file
+  pub read : IsTableAt path file
   pub scenario : List ℕ
   pub found : IsScenario path given scenario
   pub tried : HasTried file scenario old new status

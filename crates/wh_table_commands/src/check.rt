@@ -1,10 +1,13 @@
 //! The command `check`.
 
-ghost use Rattle.std.specs.Prelude.{IfOk};
-ghost use Rattle.wh_console.specs.Consoles.{Printed};
+ghost use Rattle.std.specs.Prelude.{◌≡◌, ◌≢◌, Err, IfErr, IfOk};
+ghost use Rattle.std.specs.Io.KnownBytes.{Keeps};
+ghost use Rattle.wh_console.specs.Consoles.{IsQuiet, Printed};
 ghost use Rattle.wh_table_check.specs.Checks.{AreChecked};
 ghost use Rattle.wh_table_check.specs.Texts.{report_as};
 ghost use Rattle.wh_table_commands.specs.Checks.{HasChecked, HasCheckedAll, HasCheckedPaths};
+ghost use Rattle.wh_table_commands.specs.Checks.{HasNotCheckedAll, HasNotCheckedPaths};
+ghost use Rattle.wh_table_commands.specs.Refusals.{IsWriteFailure};
 
 use crate::files::table_files;
 use std::alloc::Global;
@@ -27,6 +30,8 @@ fn print_check<M: MoreFindings, O: Write, E: Write>(
 ) -> Result<Vec<Checked>, CommandFault>
     ensures checked { IfOk result (λ all. AreChecked M.finds files.now all.items) }
     ensures printed { IfOk result (λ all. Printed console.old console.new (report_as format all.items)) }
+    ensures quiet { IsQuiet console.old console.new }
+    ensures unwritten { result ≡ Err CommandFault.OutOfMemory → console.new.output ≡ console.old.output }
 {
     check_command::<M, Outlet<O>>(alloc, files, format, &mut console.output)
 }
@@ -40,7 +45,11 @@ fn check_files<M: MoreFindings, O: Write, E: Write>(
     lacks: bool,
     console: &mut Console<'_, O, E>,
 ) -> Result<u8, Failure>
-    ensures { IfOk result (HasChecked M.finds files.now format lacks console.old console.new) }
+    ensures checked { IfOk result (HasChecked M.finds files.now format lacks console.old console.new) }
+    ensures quiet { IsQuiet console.old console.new }
+    ensures unwritten { IfErr result (λ failure. failure ≢ Failure.Output
+        → Keeps console.old.output console.new.output) }
+    ensures why { IfErr result IsWriteFailure }
 {
     let checked = match print_check::<M, O, E>(alloc, files, format, console) {
         Ok(checked) => checked,
@@ -58,7 +67,9 @@ fn check_inputs<M: MoreFindings, R: InputReader + AllocGlobal, O: Write, E: Writ
     lacks: bool,
     console: &mut Console<'_, O, E>,
 ) -> Result<u8, Failure>
-    ensures { IfOk result (HasCheckedAll R.gives M.finds inputs.items format lacks console.old console.new) }
+    ensures checked { IfOk result
+        (HasCheckedAll R.gives M.finds inputs.items format lacks console.old console.new) }
+    ensures stopped { IfErr result (HasNotCheckedAll R.gives inputs.items console.old console.new) }
 {
     let files = table_files(rt, inputs)?;
     check_files::<M, O, E>(rt.alloc(), files.as_slice(), format, lacks, console)
@@ -68,6 +79,11 @@ fn check_inputs<M: MoreFindings, R: InputReader + AllocGlobal, O: Write, E: Writ
 /// findings for tables that break no rule. Files of folders that are skipped are reported first.
 /// The status is 0 if each table is good and no file is skipped, and else 1. Nothing is written
 /// before all files are read.
+///
+/// `Unreadable` if a path or one of the files can't be read. `Output` if the report can't be
+/// written; all files have been read then. Other than `OutOfMemory` there is no failure but these.
+/// After a failure nothing was reported but files that are skipped, and nothing was written unless
+/// it is `Output`.
 pub fn check_paths<M: MoreFindings, R: Runtime + AllocGlobal, O: Write, E: Write>(
     rt: &R,
     first: Text,
@@ -76,6 +92,7 @@ pub fn check_paths<M: MoreFindings, R: Runtime + AllocGlobal, O: Write, E: Write
     console: &mut Console<'_, O, E>,
 ) -> Result<u8, Failure>
     ensures checked { IfOk result (HasCheckedPaths M.finds first more.items format console.old console.new) }
+    ensures stopped { IfErr result (HasNotCheckedPaths first more.items console.old console.new) }
 {
     let listed = all_inputs(rt, first, more, console)?;
     let lacks = listed.lacks_files(false);

@@ -1,7 +1,8 @@
 //! Reads files of tables.
 
-ghost use Rattle.std.specs.Prelude.{IfOk};
+ghost use Rattle.std.specs.Prelude.{IfErr, IfOk};
 ghost use Rattle.std.specs.List.{AllZip};
+ghost use Rattle.wh_diagnostics.specs.Failures.{IsReadFailure};
 ghost use Rattle.wh_table_commands.specs.Files.{IsTableOf};
 
 use wh_diagnostics::Failure;
@@ -12,7 +13,8 @@ use wh_table_check::TableFile;
 
 /// Reads an input as the file of a table.
 pub(crate) fn table_file<R: InputReader>(rt: &R, input: Input) -> Result<TableFile, Failure>
-    ensures { IfOk result (IsTableOf R.gives input) }
+    ensures read { IfOk result (IsTableOf R.gives input) }
+    ensures why { IfErr result IsReadFailure }
 {
     let (name, bytes) = file_from(rt, input)?;
     Ok(TableFile {
@@ -26,7 +28,8 @@ pub(crate) fn table_files<R: InputReader + AllocGlobal>(
     rt: &R,
     inputs: Vec<Input>,
 ) -> Result<Vec<TableFile>, Failure>
-    ensures { IfOk result (λ files. AllZip (IsTableOf R.gives) inputs.items files.items) }
+    ensures read { IfOk result (λ files. AllZip (IsTableOf R.gives) inputs.items files.items) }
+    ensures why { IfErr result IsReadFailure }
 {
     let mut files = Vec::new(rt.alloc());
     for input in inputs {

@@ -1,10 +1,12 @@
 //! The command `check --html`.
 
-ghost use Rattle.std.specs.Prelude.{◌≡◌, ◌∷◌, [], IfOk};
-ghost use Rattle.wh_console.specs.Consoles.{Printed};
+ghost use Rattle.std.specs.Prelude.{◌≡◌, ◌≢◌, ◌∷◌, [], Err, IfErr, IfOk};
+ghost use Rattle.std.specs.Io.KnownBytes.{Keeps};
+ghost use Rattle.wh_console.specs.Consoles.{IsQuiet, Printed};
 ghost use Rattle.wh_html.specs.Html.{bytes};
 ghost use Rattle.wh_table_check.specs.Checks.{IsChecked, status_of};
 ghost use Rattle.wh_table_commands.specs.Pictures.{HasDrawn, HasDrawnPath};
+ghost use Rattle.wh_table_commands.specs.Refusals.{IsUndrawnPath, IsWriteFailure};
 ghost use Rattle.wh_table_picture.specs.Drawings.{drawing_of};
 ghost use Rattle.wh_table_picture.specs.Pages.{page_html};
 
@@ -30,6 +32,8 @@ fn print_picture<M: MoreFindings, O: Write, E: Write>(
     ensures drawing { IfOk result (λ drawing. drawing ≡ drawing_of file.now drawing.checked) }
     ensures checked { IfOk result (λ drawing. IsChecked M.finds file.now drawing.checked) }
     ensures printed { IfOk result (λ drawing. Printed console.old console.new (bytes (page_html drawing))) }
+    ensures quiet { IsQuiet console.old console.new }
+    ensures unwritten { result ≡ Err CommandFault.OutOfMemory → console.new.output ≡ console.old.output }
 {
     picture_command::<M, Outlet<O>>(alloc, file, &mut console.output)
 }
@@ -47,7 +51,11 @@ fn draw<M: MoreFindings, O: Write, E: Write>(
     file: &TableFile,
     console: &mut Console<'_, O, E>,
 ) -> Result<u8, Failure>
-    ensures { IfOk result (HasDrawn M.finds file.now console.old console.new) }
+    ensures drawn { IfOk result (HasDrawn M.finds file.now console.old console.new) }
+    ensures quiet { IsQuiet console.old console.new }
+    ensures unwritten { IfErr result (λ failure. failure ≢ Failure.Output
+        → Keeps console.old.output console.new.output) }
+    ensures why { IfErr result IsWriteFailure }
 {
     let drawing = match print_picture::<M, O, E>(alloc, file, console) {
         Ok(drawing) => drawing,
@@ -59,12 +67,20 @@ fn draw<M: MoreFindings, O: Write, E: Write>(
 /// Checks the table in the file at this path, and writes an HTML page with the findings and a
 /// picture of the table's states; `M` decides the further findings if the table breaks no rule. The
 /// status is that of the check.
+///
+/// `Unreadable` if the file can't be read. `Output` if the page can't be written; the file has been
+/// read then. Other than `OutOfMemory` there is no failure but these. After a failure nothing was
+/// reported, and nothing was written unless it is `Output`.
 pub fn picture_path<M: MoreFindings, R: Runtime + AllocGlobal, O: Write, E: Write>(
     rt: &R,
     path: Text,
     console: &mut Console<'_, O, E>,
 ) -> Result<u8, Failure>
     ensures drawn { IfOk result (HasDrawnPath M.finds path console.old console.new) }
+    ensures quiet { IfErr result (λ _. IsQuiet console.old console.new) }
+    ensures unwritten { IfErr result (λ failure. failure ≢ Failure.Output
+        → Keeps console.old.output console.new.output) }
+    ensures why { IfErr result (IsUndrawnPath path) }
 {
     let input = input_of(rt, path)?;
     let file = table_file(rt, input)?;

@@ -1,7 +1,9 @@
 //! The command `try`.
 
-ghost use Rattle.std.specs.Prelude.{◌≡◌, IfOk};
-ghost use Rattle.wh_console.specs.Consoles.{Printed};
+ghost use Rattle.std.specs.Prelude.{◌≡◌, ◌≢◌, Err, IfErr, IfOk};
+ghost use Rattle.std.specs.Io.KnownBytes.{Keeps};
+ghost use Rattle.wh_console.specs.Consoles.{IsQuiet, Printed};
+ghost use Rattle.wh_table_commands.specs.Refusals.{IsUnreadText, IsUntriedPath, IsWriteFailure, LacksScenario};
 ghost use Rattle.wh_table_commands.specs.Trials.{HasTried, HasTriedPath, IsBeside, IsScenario, IsTextAt};
 ghost use Rattle.wh_table_trial.specs.Texts.{trial_text};
 ghost use Rattle.wh_table_trial.specs.Trials.{trial};
@@ -28,6 +30,8 @@ fn print_trial<O: Write, E: Write>(
 ) -> Result<Trial, CommandFault>
     ensures tried { IfOk result (λ own. own ≡ trial file.now.bytes scenario.now) }
     ensures printed { IfOk result (λ own. Printed console.old console.new (trial_text file.now.name own)) }
+    ensures quiet { IsQuiet console.old console.new }
+    ensures unwritten { result ≡ Err CommandFault.OutOfMemory → console.new.output ≡ console.old.output }
 {
     try_command::<Outlet<O>>(
         alloc,
@@ -46,7 +50,11 @@ fn try_file<O: Write, E: Write>(
     scenario: &str,
     console: &mut Console<'_, O, E>,
 ) -> Result<u8, Failure>
-    ensures { IfOk result (HasTried file.now scenario.now console.old console.new) }
+    ensures tried { IfOk result (HasTried file.now scenario.now console.old console.new) }
+    ensures quiet { IsQuiet console.old console.new }
+    ensures unwritten { IfErr result (λ failure. failure ≢ Failure.Output
+        → Keeps console.old.output console.new.output) }
+    ensures why { IfErr result IsWriteFailure }
 {
     let own = match print_trial(alloc, file, scenario, console) {
         Ok(own) => own,
@@ -67,7 +75,8 @@ fn beside(alloc: Global, path: &str) -> Result<Text, AllocError>
 
 /// Reads the file at this path as a text.
 fn text_at<R: Files + io::Input + AllocGlobal>(rt: &R, path: Text) -> Result<Text, Failure>
-    ensures { IfOk result (IsTextAt path) }
+    ensures read { IfOk result (IsTextAt path) }
+    ensures why { IfErr result (IsUnreadText path) }
 {
     let input = input_of(rt, path)?;
     let (name, bytes) = file_from(rt, input)?;
@@ -85,7 +94,8 @@ fn scenario_of<R: Files + io::Input + AllocGlobal>(
     path: &str,
     given: Option<Text>,
 ) -> Result<Text, Failure>
-    ensures { IfOk result (IsScenario path.now given) }
+    ensures scenario { IfOk result (IsScenario path.now given) }
+    ensures why { IfErr result (LacksScenario path.now given) }
 {
     if let Some(text) = given {
         return Ok(text);
@@ -98,7 +108,12 @@ fn scenario_of<R: Files + io::Input + AllocGlobal>(
 
 /// Tries the table in the file at this path on the scenario that is given, or else on the one in
 /// the file beside it, whose path has `.txt` instead of `.json`, and writes the result. The status
-/// is 0 if nothing differs, and else 1. `NotText` if the file of the scenario is not UTF-8.
+/// is 0 if nothing differs, and else 1.
+///
+/// `Unreadable` if a file can't be read. If no scenario is given, `NotText` if the file of the
+/// scenario is not UTF-8. `Output` if the result can't be written; the files have been read then.
+/// Other than `OutOfMemory` there is no failure but these. After a failure nothing was reported,
+/// and nothing was written unless it is `Output`.
 pub fn try_path<R: Runtime + AllocGlobal, O: Write, E: Write>(
     rt: &R,
     path: Text,
@@ -106,6 +121,10 @@ pub fn try_path<R: Runtime + AllocGlobal, O: Write, E: Write>(
     console: &mut Console<'_, O, E>,
 ) -> Result<u8, Failure>
     ensures tried { IfOk result (HasTriedPath path scenario console.old console.new) }
+    ensures quiet { IfErr result (λ _. IsQuiet console.old console.new) }
+    ensures unwritten { IfErr result (λ failure. failure ≢ Failure.Output
+        → Keeps console.old.output console.new.output) }
+    ensures why { IfErr result (IsUntriedPath path scenario) }
 {
     let Ok(copy) = path.try_copy() else {
         return Err(Failure::OutOfMemory);

@@ -10,4 +10,4 @@ loop-input-preserved g c =
     let at = c.loop-input in
     let inputs = at.yielded ++ (c.in-Some.input ∷ []) in
     subst (λ l. AllZip (IsTableOf g.R.InputReader.gives) inputs l) (sym c.in-Ok.ensures.items)
-    (zip_more (IsTableOf g.R.InputReader.gives) at.yielded at.files.items c.in-Some.input c.in_ok-file.file at.invariant c.in_ok-file.ensures)
+    (zip_more (IsTableOf g.R.InputReader.gives) at.yielded at.files.items c.in-Some.input c.in_ok-file.file at.invariant c.in_ok-file.ensures.read)
