@@ -1,7 +1,8 @@
 //! Each plan, and the command that carries it out.
 
-ghost use Rattle.std.specs.Prelude.{IfErr, IfOk};
-ghost use Rattle.wh_cli.specs.Private.Commands.{HasStopped, HasWorked, IsReplay, IsReplayed, Obeys};
+ghost use Rattle.std.specs.Prelude.{◌≡◌, IfErr, IfOk};
+ghost use Rattle.wh_cli.specs.Private.Commands.{HasReplayResult, HasWorked, IsReplay, IsUndone, IsWorkFailure};
+ghost use Rattle.wh_cli.specs.Private.Commands.{MayFailWith, Obeys, plan_failure};
 ghost use Rattle.wh_command_line.specs.Options.{IsWithinLimits, IsWithinWorkLimits};
 ghost use Rattle.wh_work.specs.Plans.{MayServe, lives};
 
@@ -22,7 +23,9 @@ use wh_table_commands::{check_paths, picture_path, try_path};
 use wh_work::{LivePlan, LiveReport, PlanFault, live_plan, live_status};
 
 /// Returns why there is no full report, from why there is no plan to serve live tasks.
-fn failure_of(fault: PlanFault) -> Failure {
+fn failure_of(fault: PlanFault) -> Failure
+    ensures { result ≡ plan_failure fault }
+{
     match fault {
         PlanFault::Unread { fault } => Failure::from(fault),
         PlanFault::BadPolicies { bad } => Failure::BadPolicies {
@@ -44,7 +47,9 @@ where
     F: Drop,
     requires limits { IsWithinWorkLimits options }
     requires serves { MayServe (F.pre live) }
-    ensures { IfOk result (HasWorked (lives (F.post live)) options console.old console.new) }
+    ensures worked { IfOk result (HasWorked (lives (F.post live)) options console.old console.new) }
+    ensures stopped { IfErr result (λ _. console.new ≡ console.old) }
+    ensures why { IfErr result IsWorkFailure }
 {
     let plan = match live_plan(rt, options) {
         Ok(plan) => plan,
@@ -73,8 +78,8 @@ where
     R::File: Send,
     R::Dir: Send,
     requires { IsReplay plan }
-    ensures replayed { IfOk result (IsReplayed W.program types.now plan console.old console.new) }
-    ensures stopped { IfErr result (HasStopped W.program plan console.old console.new) }
+    ensures replayed { IfOk result (HasReplayResult W.program types.now plan console.old console.new) }
+    ensures stopped { IfErr result (IsUndone W.program plan console.old console.new) }
 {
     let Plan::Replay {
         dir,
@@ -117,7 +122,8 @@ where
     requires serves { MayServe (F.pre live) }
     ensures obeys { IfOk result
         (Obeys W.program W.queries (lives (F.post live)) types.now plan console.old console.new) }
-    ensures stopped { IfErr result (HasStopped W.program plan console.old console.new) }
+    ensures stopped { IfErr result (IsUndone W.program plan console.old console.new) }
+    ensures why { IfErr result (MayFailWith plan) }
 {
     match plan {
         Plan::Replay { .. } => replay::<W, R, O, E>(rt, types, plan, console),

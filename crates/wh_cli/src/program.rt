@@ -1,11 +1,11 @@
 //! The program: it does what its command line asks for, and ends with a status.
 
-ghost use Rattle.std.specs.Prelude.{◌≡◌, ◌≢◌, ◌≤◌, Err, IfErr, IfOk, map, string_bytes};
+ghost use Rattle.std.specs.Prelude.{◌≡◌, ◌⊎◌, ◌≤◌, IfErr, IfOk, map, string_bytes};
 ghost use Rattle.std.specs.Process.{exit_status};
 ghost use Rattle.wh_command_line.specs.Options.{IsWithinLimits};
 ghost use Rattle.wh_command_line.specs.Plans.{IsAskedBy};
 ghost use Rattle.wh_cli.specs.Private.Commands.{Answers, AskForNothing, HasFailed, IsRefusedLine};
-ghost use Rattle.wh_cli.specs.Private.Commands.{called, is_unread, name_of};
+ghost use Rattle.wh_cli.specs.Private.Commands.{called, is_closed_pipe, name_of};
 ghost use Rattle.wh_work.specs.Plans.{MayServe, lives};
 ghost use Rattle.wh_host.specs.Machine.{IsConfig};
 
@@ -38,7 +38,7 @@ pub(crate) const UNCALLED: &str = "wfhost";
 
 /// The words of the command line, the program's name first.
 pub(crate) fn words<R: Env + AllocGlobal>(rt: &R) -> Result<Vec<String>, Failure>
-    ensures { result ≢ Err Failure.FewSlots }
+    ensures { IfErr result (λ failure. (failure ≡ Failure.BadArguments) ⊎ (failure ≡ Failure.OutOfMemory)) }
 {
     match env::args(rt) {
         Ok(words) => match words.collect(rt.alloc()) {
@@ -87,7 +87,9 @@ fn plan(alloc: Global, types: &str, words: &[String]) -> Result<Plan, Failure>
 }
 
 /// The standard output, for a report.
-fn output<R: Print + AllocGlobal>(rt: &R) -> Result<BufWriter<Printer<'_, R>>, Failure> {
+fn output<R: Print + AllocGlobal>(rt: &R) -> Result<BufWriter<Printer<'_, R>>, Failure>
+    ensures { IfErr result (λ failure. failure ≡ Failure.OutOfMemory) }
+{
     match BufWriter::new(rt.alloc(), io::writer(rt)) {
         Ok(writer) => Ok(writer),
         Err(_) => Err(Failure::OutOfMemory),
@@ -95,8 +97,8 @@ fn output<R: Print + AllocGlobal>(rt: &R) -> Result<BufWriter<Printer<'_, R>>, F
 }
 
 /// Whether the standard output is a closed pipe: it can't be written, since its reader closed it.
-fn is_unread(failure: &Failure, closed: bool) -> bool
-    ensures { result ≡ is_unread failure.now closed }
+fn is_closed_pipe(failure: &Failure, closed: bool) -> bool
+    ensures { result ≡ is_closed_pipe failure.now closed }
 {
     match failure {
         Failure::Output => closed,
@@ -109,7 +111,7 @@ fn is_unread(failure: &Failure, closed: bool) -> bool
 fn fail<O: Write, E: Write>(failure: Failure, console: &mut Console<'_, O, E>) -> u8
     ensures { HasFailed failure console.old console.new result }
 {
-    if is_unread(&failure, console.is_closed()) {
+    if is_closed_pipe(&failure, console.is_closed()) {
         drop(failure);
     } else {
         console.report(Diagnostic::Failed { failure });

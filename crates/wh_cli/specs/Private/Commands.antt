@@ -9,24 +9,29 @@ use Rattle.wh_command_line.specs.declared.work.WorkOptions.{WorkOptions}
 use Rattle.wh_console.specs.Consoles.{ConsoleView, IsQuiet, Reported}
 use Rattle.wh_crew.specs.declared.serving.LiveEnd.{LiveEnd}
 use Rattle.wh_diagnostics.specs.Diagnostics.{failed_text}
+use Rattle.wh_diagnostics.specs.Failures.{input_failure}
 use Rattle.wh_diagnostics.specs.Printing.{HasPrinted}
 use Rattle.wh_diagnostics.specs.declared.failures.Failure.{Failure}
-use Rattle.wh_diagnostics.specs.declared.failures.Failure.TheVariants.{BadLine, FewSlots, Output, OutOfMemory}
+use Rattle.wh_diagnostics.specs.declared.failures.Failure.TheVariants.{BadLine, BadPolicies, FewSlots, Output, OutOfMemory}
 use Rattle.wh_file_commands.specs.Explanations.{HasExplainedPath}
 use Rattle.wh_file_commands.specs.Pages.{HasPagedPath}
 use Rattle.wh_file_commands.specs.Queries.{HasQueriedPath}
-use Rattle.wh_file_commands.specs.Refusals.{IsRefused}
+use Rattle.wh_file_commands.specs.Refusals.{IsRefused, IsUnqueried, IsUnshownPath}
 use Rattle.wh_file_commands.specs.Replays.{HasNotReplayedPaths, HasReplayedPaths}
 use Rattle.wh_file_commands.specs.Views.{HasViewedPath}
 use Rattle.wh_promise_findings.specs.Finds.{Finds}
+use Rattle.wh_query_report.specs.Inputs.{query_of}
 use Rattle.wh_queryable.specs.Queries.{Queries}
 use Rattle.wh_service_command.specs.Commands.{HasNotServedFolder, HasServedFolder}
 use Rattle.wh_table_commands.specs.Checks.{HasCheckedPaths}
 use Rattle.wh_table_commands.specs.Pictures.{HasDrawnPath}
 use Rattle.wh_table_commands.specs.Trials.{HasTriedPath}
 use Rattle.wh_work.specs.Plans.{IsLivePlan, LivesBy}
+use Rattle.wh_work.specs.Policies.{IsPlanFault}
 use Rattle.wh_work.specs.Reports.{live_as, live_status}
 use Rattle.wh_work.specs.declared.plan.LivePlan.{LivePlan}
+use Rattle.wh_work.specs.declared.policies.PlanFault.{PlanFault}
+use Rattle.wh_work.specs.declared.policies.PlanFault.TheVariants as faults
 use Rattle.wh_workflow.specs.Law.{Program}
 
 -- live tasks were served as the options ask for, how they ended was reported, and the status is that of their end
@@ -44,11 +49,11 @@ IsReplay (Replay dir more format required strict progress) = Unit {0}
 IsReplay _ = ⊥
 
 -- the files that a plan of `replay` names were replayed
-abbrev pub IsReplayed : {S : Type 0} → Program S → (types : List ℕ) → Plan → (old new : ConsoleView) → (status : ℕ)
-    → Type 0
-IsReplayed program types (Replay dir more format required strict progress) old new status =
+abbrev pub HasReplayResult : {S : Type 0} → Program S → (types : List ℕ) → Plan → (old new : ConsoleView)
+    → (status : ℕ) → Type 0
+HasReplayResult program types (Replay dir more format required strict progress) old new status =
     HasReplayedPaths program types dir more.items format required strict progress old new status
-IsReplayed program types _ old new status = ⊥
+HasReplayResult program types _ old new status = ⊥
 
 -- what a plan asks for was done
 abbrev pub Obeys : {S : Type 0} → Program S → Queries S → LivesBy → (types : List ℕ) → Plan → (old new : ConsoleView)
@@ -89,51 +94,86 @@ called [] = codes "wfhost"
 called (word ∷ words) = name_of word
 
 -- the standard output is a closed pipe: it can't be written, since its reader closed it
-abbrev pub is_unread : Failure → Bool → Bool
-is_unread Output closed = closed
-is_unread _ closed = false
+abbrev pub is_closed_pipe : Failure → Bool → Bool
+is_closed_pipe Output closed = closed
+is_closed_pipe _ closed = false
 
--- why there is no full report, unless the standard output is a closed pipe
-abbrev pub end_text : Failure → Bool → List ℕ → List ℕ
-end_text failure closed name = if is_unread failure closed then [] else failed_text failure name
+-- why there is no full report; of a closed pipe nothing
+abbrev pub no_report_text : Failure → Bool → List ℕ → List ℕ
+no_report_text failure closed name = if is_closed_pipe failure closed then [] else failed_text failure name
 
--- a failure was reported, unless the standard output is a closed pipe, and the status is 2
+-- the text of a failure was reported, of a closed pipe nothing, and the status is 2
 pub record HasFailed (failure : Failure) (old new : ConsoleView) (status : ℕ) : Type 0 where
-  pub reported : Reported old new (end_text failure new.closed)
+  pub reported : Reported old new (no_report_text failure new.closed)
   pub ends : status ≡ 2
 
--- why there is no plan of these words: they are invalid, or there was no memory
+-- why there is no plan of these words: they are invalid, ask for fewer slots than workers, or there was no memory
 abbrev pub IsRefusedLine : List (List ℕ) → Failure → Type 0
 IsRefusedLine words (BadLine text) = IsBadLine words
 IsRefusedLine words FewSlots = HasFewSlots words
 IsRefusedLine words OutOfMemory = Unit {0}
 IsRefusedLine words _ = ⊥
 
--- what a plan asks for failed, and what was written and reported until then
-abbrev pub HasStopped : {S : Type 0} → Program S → Plan → (old new : ConsoleView) → Failure → Type 0
-HasStopped program (Replay dir more format required strict progress) old new failure =
+-- the failure of a plan to serve live tasks that has this fault
+abbrev pub plan_failure : PlanFault → Failure
+plan_failure (faults.Unread fault) = input_failure fault
+plan_failure (faults.BadPolicies bad) = BadPolicies bad.path bad.fault
+plan_failure faults.OutOfMemory = OutOfMemory
+
+-- why no live tasks are served: the plan for that has a fault, which may be that there was no memory
+pub record IsWorkFailure (failure : Failure) : Type 0 where
+  pub fault : PlanFault
+  pub is : IsPlanFault fault
+  pub gives : failure ≡ plan_failure fault
+
+-- with which failures a page, a view, a query and live work may end; `IsUndone` says which `replay` has
+abbrev pub MayFailWith : Plan → Failure → Type 0
+MayFailWith (Replay dir more format required strict progress) failure = Unit {0}
+MayFailWith (Explain file selection format) failure = Unit {0}
+MayFailWith (Page file only_recorded) failure = IsUnshownPath file failure
+MayFailWith (View file selection format) failure = IsUnshownPath file failure
+MayFailWith (Query file query_type input format) failure =
+    IsUnqueried (query_of query_type input.items) failure
+MayFailWith (Check file more format) failure = Unit {0}
+MayFailWith (Picture file) failure = Unit {0}
+MayFailWith (Try file scenario) failure = Unit {0}
+MayFailWith (Serve dir options required progress) failure = Unit {0}
+MayFailWith (Work options) failure = IsWorkFailure failure
+MayFailWith (Help text) failure = Unit {0}
+
+-- what a plan asks for failed: of live work the console got nothing; of an explanation nothing was reported; of a page,
+-- a view and a query nothing was reported, and nothing written unless the output failed; `replay` and `serve` left what
+-- definitions of their own say
+abbrev pub IsUndone : {S : Type 0} → Program S → Plan → (old new : ConsoleView) → Failure → Type 0
+IsUndone program (Replay dir more format required strict progress) old new failure =
     HasNotReplayedPaths program dir more.items strict progress old new failure
-HasStopped program (Explain file selection format) old new failure = IsQuiet old new
-HasStopped program (Page file only_recorded) old new failure = IsRefused old new failure
-HasStopped program (View file selection format) old new failure = IsRefused old new failure
-HasStopped program (Query file query_type input format) old new failure = IsRefused old new failure
-HasStopped program (Serve dir options required progress) old new failure =
+IsUndone program (Explain file selection format) old new failure = IsQuiet old new
+IsUndone program (Page file only_recorded) old new failure = IsRefused old new failure
+IsUndone program (View file selection format) old new failure = IsRefused old new failure
+IsUndone program (Query file query_type input format) old new failure = IsRefused old new failure
+IsUndone program (Check file more format) old new failure = Unit {0}
+IsUndone program (Picture file) old new failure = Unit {0}
+IsUndone program (Try file scenario) old new failure = Unit {0}
+IsUndone program (Serve dir options required progress) old new failure =
     HasNotServedFolder program dir progress old new failure
-HasStopped program _ old new failure = Unit {0}
+IsUndone program (Work options) old new failure = new ≡ old
+IsUndone program (Help text) old new failure = Unit {0}
 
 -- the words ask for a plan, and what that asks for failed
-pub record HasStoppedAtWords {S : Type 0} (program : Program S) (words : List (List ℕ)) (old new : ConsoleView)
+pub record IsUndoneAtWords {S : Type 0} (program : Program S) (words : List (List ℕ)) (old new : ConsoleView)
     (failure : Failure) : Type 0 where
   pub plan : Plan
   pub asked : IsAskedBy words plan
-  pub stopped : HasStopped program plan old new failure
+  pub stopped : IsUndone program plan old new failure
+  pub why : MayFailWith plan failure
 
--- why the words have no full report: they are refused, and then nothing was done, or what they ask for failed
+-- why the words have no full report: they are refused, and the console is as it was, or what they ask for failed
 abbrev pub IsUnanswered : {S : Type 0} → Program S → List (List ℕ) → (old new : ConsoleView) → Failure → Type 0
 IsUnanswered program words old new failure =
-    ((new ≡ old) × IsRefusedLine words failure) ⊎ HasStoppedAtWords program words old new failure
+    ((new ≡ old) × IsRefusedLine words failure) ⊎ IsUndoneAtWords program words old new failure
 
--- there is no full report: what was reported until then stands, and then the failure was reported
+-- there is no full report: what the console got until then stands, and then the failure was reported, unless it is a
+-- closed pipe
 pub record HasNoReport {S : Type 0} (program : Program S) (words : List (List ℕ)) (old new : ConsoleView)
     (status : ℕ) : Type 0 where
   pub failure : Failure
