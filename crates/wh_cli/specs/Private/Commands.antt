@@ -16,15 +16,16 @@ use Rattle.wh_diagnostics.specs.declared.failures.Failure.TheVariants.{BadLine, 
 use Rattle.wh_file_commands.specs.Explanations.{HasExplainedPath}
 use Rattle.wh_file_commands.specs.Pages.{HasPagedPath}
 use Rattle.wh_file_commands.specs.Queries.{HasQueriedPath}
-use Rattle.wh_file_commands.specs.Refusals.{IsRefused, IsUnqueried, IsUnshownPath}
+use Rattle.wh_file_commands.specs.Refusals.{IsRefused, IsUnqueriedPath, IsUnreportedPath, IsUnshownPath}
 use Rattle.wh_file_commands.specs.Replays.{HasNotReplayedPaths, HasReplayedPaths}
 use Rattle.wh_file_commands.specs.Views.{HasViewedPath}
 use Rattle.wh_promise_findings.specs.Finds.{Finds}
 use Rattle.wh_query_report.specs.Inputs.{query_of}
 use Rattle.wh_queryable.specs.Queries.{Queries}
 use Rattle.wh_service_command.specs.Commands.{HasNotServedFolder, HasServedFolder}
-use Rattle.wh_table_commands.specs.Checks.{HasCheckedPaths}
+use Rattle.wh_table_commands.specs.Checks.{HasCheckedPaths, HasNotCheckedPaths}
 use Rattle.wh_table_commands.specs.Pictures.{HasDrawnPath}
+use Rattle.wh_table_commands.specs.Refusals.{IsUndrawnPath, IsUntriedPath}
 use Rattle.wh_table_commands.specs.Trials.{HasTriedPath}
 use Rattle.wh_work.specs.Plans.{IsLivePlan, LivesBy}
 use Rattle.wh_work.specs.Policies.{IsPlanFault}
@@ -126,24 +127,24 @@ pub record IsWorkFailure (failure : Failure) : Type 0 where
   pub is : IsPlanFault fault
   pub gives : failure ≡ plan_failure fault
 
--- with which failures a page, a view, a query and live work may end; `IsUndone` says which `replay` has
+-- with which failures what a plan asks for may end; `IsUndone` says which `replay`, `check` and `serve` have
 abbrev pub MayFailWith : Plan → Failure → Type 0
 MayFailWith (Replay dir more format required strict progress) failure = Unit {0}
-MayFailWith (Explain file selection format) failure = Unit {0}
+MayFailWith (Explain file selection format) failure = IsUnreportedPath file failure
 MayFailWith (Page file only_recorded) failure = IsUnshownPath file failure
 MayFailWith (View file selection format) failure = IsUnshownPath file failure
 MayFailWith (Query file query_type input format) failure =
-    IsUnqueried (query_of query_type input.items) failure
+    IsUnqueriedPath (query_of query_type input.items) file failure
 MayFailWith (Check file more format) failure = Unit {0}
-MayFailWith (Picture file) failure = Unit {0}
-MayFailWith (Try file scenario) failure = Unit {0}
+MayFailWith (Picture file) failure = IsUndrawnPath file failure
+MayFailWith (Try file scenario) failure = IsUntriedPath file scenario failure
 MayFailWith (Serve dir options required progress) failure = Unit {0}
 MayFailWith (Work options) failure = IsWorkFailure failure
-MayFailWith (Help text) failure = Unit {0}
+MayFailWith (Help text) failure = failure ≡ Output
 
--- what a plan asks for failed: of live work the console got nothing; of an explanation nothing was reported; of a page,
--- a view and a query nothing was reported, and nothing written unless the output failed; `replay` and `serve` left what
--- definitions of their own say
+-- what a plan asks for failed: of live work the console got nothing; of an explanation and of the help nothing was
+-- reported; of a page, a view, a query, a picture and a trial nothing was reported, and nothing written unless the
+-- output failed; `replay`, `check` and `serve` left what definitions of their own say
 abbrev pub IsUndone : {S : Type 0} → Program S → Plan → (old new : ConsoleView) → Failure → Type 0
 IsUndone program (Replay dir more format required strict progress) old new failure =
     HasNotReplayedPaths program dir more.items strict progress old new failure
@@ -151,13 +152,13 @@ IsUndone program (Explain file selection format) old new failure = IsQuiet old n
 IsUndone program (Page file only_recorded) old new failure = IsRefused old new failure
 IsUndone program (View file selection format) old new failure = IsRefused old new failure
 IsUndone program (Query file query_type input format) old new failure = IsRefused old new failure
-IsUndone program (Check file more format) old new failure = Unit {0}
-IsUndone program (Picture file) old new failure = Unit {0}
-IsUndone program (Try file scenario) old new failure = Unit {0}
+IsUndone program (Check file more format) old new failure = HasNotCheckedPaths file more.items old new failure
+IsUndone program (Picture file) old new failure = IsRefused old new failure
+IsUndone program (Try file scenario) old new failure = IsRefused old new failure
 IsUndone program (Serve dir options required progress) old new failure =
     HasNotServedFolder program dir progress old new failure
 IsUndone program (Work options) old new failure = new ≡ old
-IsUndone program (Help text) old new failure = Unit {0}
+IsUndone program (Help text) old new failure = IsQuiet old new
 
 -- the words ask for a plan, and what that asks for failed
 pub record IsUndoneAtWords {S : Type 0} (program : Program S) (words : List (List ℕ)) (old new : ConsoleView)
