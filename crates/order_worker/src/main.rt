@@ -2,8 +2,7 @@
 #![tactic(auto)]
 
 use order::Order;
-use order_host::{Till, serve_from_memory};
-use std::env::Env;
+use order_host::{Till, has_arguments, serve_from_memory};
 use std::process::ExitCode;
 use std::{env, thread};
 use wh_cli::{calls_over, no_memory, read_input, run_with_heartbeats};
@@ -11,22 +10,19 @@ use wh_cli::{calls_over, no_memory, read_input, run_with_heartbeats};
 /// The registered workflow types.
 const TYPES: &str = "Order";
 
-/// Whether a word stands after the program's name.
-fn has_words<R: Env + AllocGlobal>(rt: &R) -> bool {
-    match env::args(rt) {
-        Ok(mut words) => {
-            let _name = words.next();
-            words.next().is_some()
-        }
-        Err(_) => true,
-    }
-}
-
 fn main(rt: HostRuntime) -> ExitCode {
-    if !has_words(&rt) {
+    let alloc = rt.alloc();
+    // If the command line can't be read, the run below reports that.
+    let from_memory = match env::args(&rt) {
+        Ok(words) => match words.collect::<Vec<String>>(alloc) {
+            Ok(words) => !has_arguments(words.as_slice()),
+            Err(_) => false,
+        },
+        Err(_) => false,
+    };
+    if from_memory {
         return serve_from_memory(&rt);
     }
-    let alloc = rt.alloc();
     let Ok((calls, theirs)) = calls_over(alloc, rt.stdout()) else {
         return no_memory(&rt);
     };
