@@ -12,7 +12,7 @@ const TYPES: &str = "Order";
 
 fn main(rt: HostRuntime) -> ExitCode {
     let alloc = rt.alloc();
-    // If the command line can't be read, the run below reports that.
+    // If the command line can't be read here, the run below reads it again.
     let from_memory = match env::args(&rt) {
         Ok(words) => match words.collect::<Vec<String>>(alloc) {
             Ok(words) => !has_arguments(words.as_slice()),

@@ -96,7 +96,8 @@ fn output<R: Print + AllocGlobal>(rt: &R) -> Result<BufWriter<Printer<'_, R>>, F
     }
 }
 
-/// Whether the standard output is a closed pipe: it can't be written, since its reader closed it.
+/// Whether the failure is that of a closed pipe: the standard output can't be written, since its
+/// reader closed it.
 fn is_closed_pipe(failure: &Failure, closed: bool) -> bool
     ensures { result ≡ is_closed_pipe failure.now closed }
 {
@@ -106,7 +107,7 @@ fn is_closed_pipe(failure: &Failure, closed: bool) -> bool
     }
 }
 
-/// Reports why there is no full report, unless the standard output is a closed pipe, and returns
+/// Reports why there is no full report, unless the failure is that of a closed pipe, and returns
 /// the status.
 fn fail<O: Write, E: Write>(failure: Failure, console: &mut Console<'_, O, E>) -> u8
     ensures { HasFailed failure console.old console.new result }

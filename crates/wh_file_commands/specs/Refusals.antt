@@ -4,7 +4,8 @@ use Rattle.std.specs.Io.KnownBytes.{Keeps}
 use Rattle.wh_console.specs.Consoles.{ConsoleView, IsQuiet}
 use Rattle.wh_diagnostics.specs.Failures.{IsReadFailure}
 use Rattle.wh_diagnostics.specs.declared.failures.Failure.{Failure}
-use Rattle.wh_diagnostics.specs.declared.failures.Failure.TheVariants.{BadInput, NotJson, NotViewed, Output, OutOfMemory}
+use Rattle.wh_diagnostics.specs.declared.failures.Failure.TheVariants.{BadInput, NotJson, NotViewed, Output}
+use Rattle.wh_diagnostics.specs.declared.failures.Failure.TheVariants.{OutOfMemory}
 use Rattle.wh_file_faults.specs.Faults.{File, IsNoJson}
 use Rattle.wh_files.specs.Inputs.{IsCalled, IsOf, IsReadFrom, IsSingle}
 use Rattle.wh_files.specs.declared.Input.{Input}
@@ -49,7 +50,7 @@ IsUnqueriedPath query path BadInput = query ≡ None
 IsUnqueriedPath query path OutOfMemory = Unit {0}
 IsUnqueriedPath query path failure = IsSome query × IsUnreportedPath path failure
 
--- why nothing is shown of a file by its name and bytes: they are no JSON, they have no list of events for another
+-- why a file is not shown in full, by its name and bytes: they are no JSON, they have no list of events for another
 -- reason, they have one and what is shown of it can't be written, or there was no memory
 abbrev pub IsUnshown : (name bytes : List ℕ) → Failure → Type 0
 IsUnshown name bytes (NotJson fault) =
@@ -60,17 +61,17 @@ IsUnshown name bytes Output = IsOk (members_of bytes)
 IsUnshown name bytes OutOfMemory = Unit {0}
 IsUnshown name bytes _ = ⊥
 
--- an input was read as a file, of which nothing is shown
+-- an input was read as a file, of which there is no full view or page
 pub record IsUnshownFile (gives : Gives) (input : Input) (failure : Failure) : Type 0 where
   pub file : File
   pub read : IsReadAs gives input file
   pub unshown : IsUnshown (string_bytes file.0) file.1.items failure
 
--- why nothing is shown of an input: it can't be read, or nothing is shown of the file that was read
+-- why there is no full view or page of an input: it can't be read, or there is none of the file that was read
 abbrev pub IsUnshownInput : Gives → Input → Failure → Type 0
 IsUnshownInput gives input failure = IsReadFailure failure ⊎ IsUnshownFile gives input failure
 
--- a path names an input, which is no folder, and nothing is shown of that
+-- a path names an input, which is no folder, and there is no full view or page of that
 pub record IsUnshownAt (path : List ℕ) (failure : Failure) : Type 0 where
   pub input : Input
   pub called : IsCalled false input
@@ -78,6 +79,6 @@ pub record IsUnshownAt (path : List ℕ) (failure : Failure) : Type 0 where
   pub single : IsSingle input.origin
   pub unshown : IsUnshownInput IsReadFrom input failure
 
--- why nothing is shown of what a path names: nothing can be read there, or nothing is shown of its input
+-- why there is no full view or page of what a path names: nothing can be read there, or there is none of its input
 abbrev pub IsUnshownPath : List ℕ → Failure → Type 0
 IsUnshownPath path failure = IsUnreadAt path failure ⊎ IsUnshownAt path failure

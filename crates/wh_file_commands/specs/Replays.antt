@@ -86,7 +86,7 @@ pub record HasStoppedAtPaths {S : Type 0} (program : Program S) (first : List �
   pub listed : AreListed (is_by_path more) (first ∷ more) inputs left_out old between
   pub stopped : HasNotReplayed IsReadFrom strict program inputs (mode_by link progress) between new failure
 
--- why what paths name was not replayed: one of them can't be listed, or the replay stopped
+-- there is no report of a replay of what paths name: one of them can't be listed, or there is none of their files
 abbrev pub HasNotReplayedPaths : {S : Type 0} → Program S → (first : List ℕ) → (more : List (List ℕ))
     → (strict progress : Bool) → (old new : ConsoleView) → Failure → Type 0
 HasNotReplayedPaths program first more strict progress old new failure =

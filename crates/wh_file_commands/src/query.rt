@@ -99,9 +99,9 @@ fn query_asked(alloc: Global, query_type: Text, words: Vec<Text>) -> Result<Quer
 /// is out, reports where the file is no JSON or that its workflow type is not registered, and then
 /// `types`, which are, unless they are empty.
 ///
-/// `BadInput` if a word is no JSON; nothing is read then. `Unreadable` if the history can't be read,
-/// and `Output` if the answer can't be written. Other than `OutOfMemory` there is no failure but
-/// these. After a failure nothing was reported, and nothing was written unless it is `Output`.
+/// `BadInput` if a word is no JSON. `Unreadable` if the history can't be read, and `Output` if the
+/// answer can't be written. Other than `OutOfMemory` there is no failure but these. After a failure
+/// nothing was reported, and nothing was written unless it is `Output`.
 pub fn query_path<W: Queryable, R: Runtime + AllocGlobal, O: Write, E: Write>(
     rt: &R,
     path: Text,

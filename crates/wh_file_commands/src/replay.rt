@@ -100,7 +100,7 @@ fn replay<W: Workflow + Send, R: InputReader + AllocGlobal + Threads + Sync, O: 
 ///
 /// `Unreadable` if a path or one of the files can't be read; nothing is written then, as with
 /// `OutOfMemory`. `Output` if the report can't be written. There is no other failure. After a
-/// failure nothing was reported but what is left out and progress.
+/// failure nothing was reported but what is left out, folders without a file, and progress.
 pub fn replay_paths<
     W: Workflow + Send,
     R: Runtime + AllocGlobal + Threads + Sync,

@@ -29,7 +29,7 @@ line_text Hidden progress name = []
 line_text Lines progress name = shown name ++ (codes ": " ++ (progress_words progress ++ codes "\n"))
 line_text InPlace progress name = line_start ++ (shown name ++ (codes ": " ++ (progress_words progress ++ erasure)))
 
--- what is written in the end, if a full run reports so many lines: what erases a line that is written over itself
+-- what is written last, if progress of all files has so many lines: in place, what erases a line
 abbrev pub end_text : ProgressMode → (lines : ℕ) → List ℕ → List ℕ
 end_text InPlace lines name = if lines == 0 then [] else line_start ++ erasure
 end_text _ lines name = []

@@ -82,11 +82,11 @@ impl Message for ProgressLine {
 pub struct ProgressEnd {
     /// How it was shown.
     pub mode: ProgressMode,
-    /// How many lines a full run reports. If it is none, nothing is written.
+    /// How many lines progress of all files has. If it is none, nothing is written.
     pub lines: usize,
 }
 
-/// Writes what erases the line that is written over itself, if a full run reports one.
+/// Writes what erases the line that is written over itself, if progress of all files has one.
 fn write_end<E: Write>(
     mode: ProgressMode,
     lines: usize,

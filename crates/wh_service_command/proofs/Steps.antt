@@ -3,7 +3,7 @@ use Rattle.std.proofs.Common.{◌≡◌, ◌∙◌, inr, ℕ, List, length, map,
 use Rattle.std.specs.Prelude.{Bool, false, Option, Result, Ok, Err, IfErr, IfOk}
 use Rattle.std.specs.Io.KnownBytes.{Keeps}
 use Rattle.wh_console.proofs.Printing.{quiet_twice, written_kept}
-use Rattle.wh_console.specs.Consoles.{ConsoleView, IsQuiet, Reported}
+use Rattle.wh_console.specs.Consoles.{ConsoleView, Reported}
 use Rattle.wh_diagnostics.proofs.ReadFailures.{unread_unreported}
 use Rattle.wh_diagnostics.specs.Failures.{IsReadFailure, IsReportFailure}
 use Rattle.wh_diagnostics.specs.Printing.{status_with}
@@ -26,7 +26,7 @@ use Rattle.wh_service.specs.Services.{HostsBy, IsEndOf, IsHosted, IsServiceEnd}
 use Rattle.wh_service.specs.declared.readings.ReadFiles.{ReadFiles}
 use Rattle.wh_service.specs.declared.service.Served.{Served}
 use Rattle.wh_service.specs.declared.service.ServiceEnd.{ServiceEnd}
-use Rattle.wh_service_command.specs.Commands.{faulty_in, HasEnded, HasFinished, HasNotServed, HasNotServedFolder, HasReadAll, HasServed, HasServedAll, HasServedFolder, IsCutOff}
+use Rattle.wh_service_command.specs.Commands.{faulty_in, HasFinished, HasNotServed, HasNotServedFolder, HasReadAll, HasServed, HasServedAll, HasServedFolder, IsCutOff}
 use Rattle.wh_workflow.specs.Law.{Program}
 
 -- what was written of a service stays

@@ -67,8 +67,8 @@ pub record HasFinished (types : List ℕ) (served : Served) (lacks : Bool) (old 
 abbrev pub IsCutOff : (old new : ConsoleView) → Failure → Type 0
 IsCutOff old new failure = (failure ≡ Output) × IsQuiet old new
 
--- inputs were read as files, in their order; progress was reported, by which of them have no history that can be read,
--- and a line that was written over itself erased; the report of a service of these files was written, which does not
+-- the files of inputs, in the same order, were read; progress was reported, by which of them have no history that can be
+-- read, and what erases a line of it was written; the report of a service of these files was written, which does not
 -- depend on how progress is shown; then the rest was reported, and the registered workflow types if the type of a file
 -- is not registered; the status is that of the service, unless files are lacking
 pub record HasServedAll {S : Type 0} (gives : Gives) (program : Program S) (types : List ℕ) (hosts : HostsBy)
@@ -88,17 +88,17 @@ pub record HasServedAll {S : Type 0} (gives : Gives) (program : Program S) (type
   pub known : Reported ended new (known_types_text types (lacks_code end))
   pub ends : status ≡ status_with lacks end.status
 
--- inputs were read as files, in their order, and progress was reported, by which of them have no history that can be
--- read
+-- the files of inputs, in the same order, were read, and progress was reported, by which of them have no history that
+-- can be read
 pub record HasReadAll (gives : Gives) (inputs : List Input) (mode : ProgressMode) (old new : ConsoleView)
     : Type 0 where
   pub files : List File
   pub from : AllZip (IsReadAs gives) inputs files
   pub told : Reported old new (reports_of mode (faulty_of (map reading_of files)))
 
--- there is no report of a service, or it can't be written: progress was reported after some batches of what was read,
--- and a line that was written over itself erased; nothing more was reported, and nothing written unless the output
--- failed, which it does only if all inputs were read
+-- there is no report of a service: progress was reported after some batches of what was read, perhaps none, what erases
+-- a line of it was written, and nothing more was reported; if the output failed, all inputs were read before, and
+-- otherwise nothing was written either
 pub record HasNotServed {S : Type 0} (gives : Gives) (program : Program S) (inputs : List Input)
     (mode : ProgressMode) (old new : ConsoleView) (failure : Failure) : Type 0 where
   pub between : ConsoleView
@@ -108,7 +108,7 @@ pub record HasNotServed {S : Type 0} (gives : Gives) (program : Program S) (inpu
   pub why : IsReportFailure failure
   pub read : failure ≡ Output → HasReadAll gives inputs mode old between
 
--- the files of a folder were served by a host of these sizes, and progress was reported as the link of the standard
+-- the files of a folder were served by a host of these sizes, and progress was reported as some link of the standard
 -- error and the option for it have it
 pub record HasServedFolder {S : Type 0} (program : Program S) (types dir : List ℕ) (config : Config)
     (required progress : Bool) (old new : ConsoleView) (status : ℕ) : Type 0 where
@@ -130,8 +130,8 @@ pub record HasStoppedInFolder {S : Type 0} (program : Program S) (dir : List ℕ
   pub listed : IsListed false dir inputs left_out old between
   pub stopped : HasNotServed IsReadFrom program inputs (mode_by link progress) between new failure
 
--- why the files of a folder were not served: it can't be listed, and then the console is as it was, or the service
--- stopped
+-- there is no report of a service of a folder: it can't be listed, and the console is as it was, or there is none of
+-- its files
 abbrev pub HasNotServedFolder : {S : Type 0} → Program S → (dir : List ℕ) → (progress : Bool) → (old new : ConsoleView)
     → Failure → Type 0
 HasNotServedFolder program dir progress old new failure =

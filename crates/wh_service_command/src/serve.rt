@@ -111,8 +111,8 @@ where
 }
 
 /// Serves inputs, writes the report, and once it is out, reports the rest. Progress is reported
-/// while the inputs are read. A line of it that was written over itself stays while the host runs,
-/// and is erased before the report, or if there is none.
+/// while the inputs are read. If it is shown in one line, that stays while the host runs; what
+/// erases it is written before the report, or if there is none.
 fn serve<
     W: Workflow + Send,
     R: InputReader + AllocGlobal + Threads + Sync,
@@ -158,7 +158,8 @@ where
 /// `Unreadable` if the folder or one of its files can't be read; progress may have been reported
 /// then, and nothing is written, as with `OutOfMemory`. `Output` if the report can't be written: all
 /// files have been read then, and progress has been reported to its end. There is no other failure.
-/// After a failure nothing was reported but what is left out and progress.
+/// After a failure nothing was reported but what is left out, that the folder has no file, and
+/// progress.
 pub fn serve_folder<
     W: Workflow + Send,
     R: Runtime + AllocGlobal + Threads + Wait + Sync,

@@ -53,15 +53,15 @@ abbrev pub IsUnwrittenCheck : Gives → List Input → Failure → Type 0
 IsUnwrittenCheck gives inputs failure =
     (files : List TableFile) × AllZip (IsTableOf gives) inputs files × (failure ≡ Output)
 
--- inputs were not checked: one can't be read, there was no memory, or the report can't be written; nothing was
--- reported, and nothing written unless the output failed
+-- there is no report of a check of inputs: one can't be read, the report can't be written, or there was no memory;
+-- nothing was reported, and nothing written unless the output failed
 pub record HasNotCheckedAll (gives : Gives) (inputs : List Input) (old new : ConsoleView) (failure : Failure)
     : Type 0 where
   pub quiet : IsQuiet old new
   pub unwritten : failure ≢ Output → Keeps old.output new.output
   pub why : IsReadFailure failure ⊎ IsUnwrittenCheck gives inputs failure
 
--- what paths name was listed, and not checked
+-- what paths name was listed, and there is no report of its check
 pub record HasStoppedAtPaths (first : List ℕ) (others : List (List ℕ)) (old new : ConsoleView)
     (failure : Failure) : Type 0 where
   pub inputs : List Input
@@ -70,7 +70,7 @@ pub record HasStoppedAtPaths (first : List ℕ) (others : List (List ℕ)) (old 
   pub listed : AreListed (is_by_path others) (first ∷ others) inputs left_out old between
   pub stopped : HasNotCheckedAll IsReadFrom inputs between new failure
 
--- why the files at paths were not checked: one of the paths can't be listed, or the check stopped
+-- there is no report of a check of what paths name: one of them can't be listed, or there is none of their files
 abbrev pub HasNotCheckedPaths : (first : List ℕ) → (others : List (List ℕ)) → (old new : ConsoleView) → Failure
     → Type 0
 HasNotCheckedPaths first others old new failure =

@@ -1,4 +1,4 @@
--- Why nothing can be written of a table.
+-- Why a command of a table has no full report.
 use Rattle.std.specs.Prelude.{◌≡◌, ◌⊎◌, ℕ, List, Option, Some, None, string_bytes}
 use Rattle.std.specs.Str.{IsUtf8}
 use Rattle.wh_diagnostics.specs.Failures.{IsReadFailure}
@@ -46,7 +46,7 @@ pub record IsNoTextAt (path : List ℕ) (failure : Failure) : Type 0 where
 abbrev pub IsUnreadText : (path : List ℕ) → Failure → Type 0
 IsUnreadText path failure = IsUnreadFile path failure ⊎ IsNoTextAt path failure
 
--- why there is no scenario: none is given, and the file beside the table is not read as a text, or there was no memory
+-- why there is no scenario: none is given, and there was no memory or the file beside the table is not read as a text
 abbrev pub LacksScenario : (path : List ℕ) → Option (List ℕ) → Failure → Type 0
 LacksScenario path (Some given) failure = ⊥
 LacksScenario path None failure =

@@ -76,14 +76,13 @@ fn check_inputs<M: MoreFindings, R: InputReader + AllocGlobal, O: Write, E: Writ
 }
 
 /// Checks the tables in the files at these paths, and writes the report; `M` decides the further
-/// findings for tables that break no rule. Files of folders that are skipped are reported first.
-/// The status is 0 if each table is good and no file is skipped, and else 1. Nothing is written
-/// before all files are read.
+/// findings for tables that break no rule. What is left out of folders is reported first, or that
+/// one has no file. The status is 0 if each table is good and no file is skipped, and else 1.
 ///
 /// `Unreadable` if a path or one of the files can't be read. `Output` if the report can't be
-/// written; all files have been read then. Other than `OutOfMemory` there is no failure but these.
-/// After a failure nothing was reported but files that are skipped, and nothing was written unless
-/// it is `Output`.
+/// written. Other than `OutOfMemory` there is no failure but these. After a failure nothing was
+/// reported but what is left out and folders without a file, and nothing was written unless it is
+/// `Output`.
 pub fn check_paths<M: MoreFindings, R: Runtime + AllocGlobal, O: Write, E: Write>(
     rt: &R,
     first: Text,

@@ -68,9 +68,9 @@ fn draw<M: MoreFindings, O: Write, E: Write>(
 /// picture of the table's states; `M` decides the further findings if the table breaks no rule. The
 /// status is that of the check.
 ///
-/// `Unreadable` if the file can't be read. `Output` if the page can't be written; the file has been
-/// read then. Other than `OutOfMemory` there is no failure but these. After a failure nothing was
-/// reported, and nothing was written unless it is `Output`.
+/// `Unreadable` if the file can't be read. `Output` if the page can't be written. Other than
+/// `OutOfMemory` there is no failure but these. After a failure nothing was reported, and nothing
+/// was written unless it is `Output`.
 pub fn picture_path<M: MoreFindings, R: Runtime + AllocGlobal, O: Write, E: Write>(
     rt: &R,
     path: Text,

@@ -111,9 +111,9 @@ fn scenario_of<R: Files + io::Input + AllocGlobal>(
 /// is 0 if nothing differs, and else 1.
 ///
 /// `Unreadable` if a file can't be read. If no scenario is given, `NotText` if the file of the
-/// scenario is not UTF-8. `Output` if the result can't be written; the files have been read then.
-/// Other than `OutOfMemory` there is no failure but these. After a failure nothing was reported,
-/// and nothing was written unless it is `Output`.
+/// scenario is not UTF-8. `Output` if the result can't be written. Other than `OutOfMemory` there
+/// is no failure but these. After a failure nothing was reported, and nothing was written unless it
+/// is `Output`.
 pub fn try_path<R: Runtime + AllocGlobal, O: Write, E: Write>(
     rt: &R,
     path: Text,

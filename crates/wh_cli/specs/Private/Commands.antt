@@ -12,7 +12,8 @@ use Rattle.wh_diagnostics.specs.Diagnostics.{failed_text}
 use Rattle.wh_diagnostics.specs.Failures.{input_failure}
 use Rattle.wh_diagnostics.specs.Printing.{HasPrinted}
 use Rattle.wh_diagnostics.specs.declared.failures.Failure.{Failure}
-use Rattle.wh_diagnostics.specs.declared.failures.Failure.TheVariants.{BadLine, BadPolicies, FewSlots, Output, OutOfMemory}
+use Rattle.wh_diagnostics.specs.declared.failures.Failure.TheVariants.{BadLine, BadPolicies, FewSlots, Output}
+use Rattle.wh_diagnostics.specs.declared.failures.Failure.TheVariants.{OutOfMemory}
 use Rattle.wh_file_commands.specs.Explanations.{HasExplainedPath}
 use Rattle.wh_file_commands.specs.Pages.{HasPagedPath}
 use Rattle.wh_file_commands.specs.Queries.{HasQueriedPath}
@@ -94,16 +95,16 @@ abbrev pub called : List (List ℕ) → List ℕ
 called [] = codes "wfhost"
 called (word ∷ words) = name_of word
 
--- the standard output is a closed pipe: it can't be written, since its reader closed it
+-- the failure is that of a closed pipe: the standard output can't be written, since its reader closed it
 abbrev pub is_closed_pipe : Failure → Bool → Bool
 is_closed_pipe Output closed = closed
 is_closed_pipe _ closed = false
 
--- why there is no full report; of a closed pipe nothing
+-- the text that says why there is no full report; none for the failure of a closed pipe
 abbrev pub no_report_text : Failure → Bool → List ℕ → List ℕ
 no_report_text failure closed name = if is_closed_pipe failure closed then [] else failed_text failure name
 
--- the text of a failure was reported, of a closed pipe nothing, and the status is 2
+-- a failure was reported, unless it is that of a closed pipe, and the status is 2
 pub record HasFailed (failure : Failure) (old new : ConsoleView) (status : ℕ) : Type 0 where
   pub reported : Reported old new (no_report_text failure new.closed)
   pub ends : status ≡ 2
@@ -115,19 +116,19 @@ IsRefusedLine words FewSlots = HasFewSlots words
 IsRefusedLine words OutOfMemory = Unit {0}
 IsRefusedLine words _ = ⊥
 
--- the failure of a plan to serve live tasks that has this fault
+-- the failure if there is no plan to serve live tasks, by the fault
 abbrev pub plan_failure : PlanFault → Failure
 plan_failure (faults.Unread fault) = input_failure fault
 plan_failure (faults.BadPolicies bad) = BadPolicies bad.path bad.fault
 plan_failure faults.OutOfMemory = OutOfMemory
 
--- why no live tasks are served: the plan for that has a fault, which may be that there was no memory
+-- why work with live tasks has no report: there is no plan for it, by its fault, or there was no memory
 pub record IsWorkFailure (failure : Failure) : Type 0 where
   pub fault : PlanFault
   pub is : IsPlanFault fault
   pub gives : failure ≡ plan_failure fault
 
--- with which failures what a plan asks for may end; `IsUndone` says which `replay`, `check` and `serve` have
+-- the failures that a plan may end with; `IsUndone` says those of `replay`, `check` and `serve`
 abbrev pub MayFailWith : Plan → Failure → Type 0
 MayFailWith (Replay dir more format required strict progress) failure = Unit {0}
 MayFailWith (Explain file selection format) failure = IsUnreportedPath file failure
@@ -142,9 +143,9 @@ MayFailWith (Serve dir options required progress) failure = Unit {0}
 MayFailWith (Work options) failure = IsWorkFailure failure
 MayFailWith (Help text) failure = failure ≡ Output
 
--- what a plan asks for failed: of live work the console got nothing; of an explanation and of the help nothing was
--- reported; of a page, a view, a query, a picture and a trial nothing was reported, and nothing written unless the
--- output failed; `replay`, `check` and `serve` left what definitions of their own say
+-- what a plan asks for failed. Live work left the console as it was; an explanation and the help reported nothing; a
+-- page, a view, a query, a picture and a trial reported nothing, and wrote nothing unless the output failed; what
+-- `replay`, `check` and `serve` left, their own definitions say
 abbrev pub IsUndone : {S : Type 0} → Program S → Plan → (old new : ConsoleView) → Failure → Type 0
 IsUndone program (Replay dir more format required strict progress) old new failure =
     HasNotReplayedPaths program dir more.items strict progress old new failure
@@ -173,8 +174,8 @@ abbrev pub IsUnanswered : {S : Type 0} → Program S → List (List ℕ) → (ol
 IsUnanswered program words old new failure =
     ((new ≡ old) × IsRefusedLine words failure) ⊎ IsUndoneAtWords program words old new failure
 
--- there is no full report: what the console got until then stands, and then the failure was reported, unless it is a
--- closed pipe
+-- there is no full report: what the console got until then stands, and then the failure was reported, unless it is
+-- that of a closed pipe
 pub record HasNoReport {S : Type 0} (program : Program S) (words : List (List ℕ)) (old new : ConsoleView)
     (status : ℕ) : Type 0 where
   pub failure : Failure

@@ -1,7 +1,8 @@
 -- Why a step of a command of a file has no full report.
 use Rattle.std.specs.Prelude.{◌≡◌, ◌⊎◌, ℕ, List, IsSome, None, Option}
 use Rattle.wh_diagnostics.specs.declared.failures.Failure.{Failure}
-use Rattle.wh_diagnostics.specs.declared.failures.Failure.TheVariants.{BadInput, NotJson, NotViewed, Output, OutOfMemory}
+use Rattle.wh_diagnostics.specs.declared.failures.Failure.TheVariants.{BadInput, NotJson, NotViewed, Output}
+use Rattle.wh_diagnostics.specs.declared.failures.Failure.TheVariants.{OutOfMemory}
 use Rattle.wh_file_faults.specs.Faults.{IsNoJson}
 use Rattle.wh_file_page.specs.declared.fault.PageFault.{PageFault}
 use Rattle.wh_file_page.specs.declared.fault.PageFault.TheVariants as pages
@@ -18,8 +19,8 @@ IsWriteFailure failure = (failure ≡ Output) ⊎ (failure ≡ OutOfMemory)
 abbrev pub IsUnasked : Option Query → Failure → Type 0
 IsUnasked query failure = ((query ≡ None) × (failure ≡ BadInput)) ⊎ (failure ≡ OutOfMemory)
 
--- why the events of a file that is taken for no JSON can't be shown: if it is none, that, and else the fault as it is;
--- or there was no memory to see that
+-- why the events of a file whose fault is `BadJson` can't be shown: it is no JSON, and where that shows; or it is JSON,
+-- and the fault is kept; or there was no memory to tell
 abbrev pub IsUnviewedJson : (name bytes : List ℕ) → Failure → Type 0
 IsUnviewedJson name bytes (NotJson fault) = (fault.name ≡ name) × IsNoJson bytes fault.cause
 IsUnviewedJson name bytes (NotViewed file fault) = (file ≡ name) × (fault ≡ reads.BadJson) × IsSome (document bytes)

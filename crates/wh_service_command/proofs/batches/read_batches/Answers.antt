@@ -1,4 +1,4 @@
-use Rattle.std.proofs.Common.{◌≡◌, ◌∙◌, ◌<◌, ◌≤◌, ◌+◌, suc, length, take, drop, ap, ap₂, subst, arith}
+use Rattle.std.proofs.Common.{◌≡◌, ◌∙◌, ◌<◌, ◌≤◌, ◌+◌, suc, length, take, drop, ap, subst, arith}
 use Rattle.wh_console.specs.Consoles.{Reported}
 use Rattle.wh_inputs.specs.Readings.{IsReadAs}
 use Rattle.wh_progress.proofs.Batched.{AreBatched, batch_left, batched_all, batched_more, batched_none, batched_stopped, batches_fit, stopped_if}

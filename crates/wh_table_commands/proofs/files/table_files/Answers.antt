@@ -1,4 +1,4 @@
-use Rattle.std.proofs.Common.{List, [], ◌∷◌, ◌++◌, subst, sym}
+use Rattle.std.proofs.Common.{[], ◌∷◌, ◌++◌, subst, sym}
 use Rattle.std.specs.List.{AllZip}
 use Rattle.wh_table_commands.proofs.Steps.{zip_more}
 use Rattle.wh_table_commands.specs.Files.{IsTableOf}
