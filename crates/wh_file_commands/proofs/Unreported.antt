@@ -1,13 +1,13 @@
 -- Why there is no full report of a file.
 use Rattle.std.proofs.Common.{◌≡◌, ℕ, List, inl, inr, refl, sym, subst}
-use Rattle.std.specs.Prelude.{◌⊎◌, false, Option, Some, Result, Ok, Err, IfErr, IsSome}
+use Rattle.std.specs.Prelude.{false, Option, Some, Result, Ok, Err, IfErr, IsSome}
 use Rattle.std.specs.Result.{IsErrAnd}
 use Rattle.wh_diagnostics.proofs.ReadFailures.{input_fails_to_read}
 use Rattle.wh_diagnostics.specs.Failures.{input_failure, IsReadFailure, IsReportFailure}
 use Rattle.wh_diagnostics.specs.declared.failures.Failure.{Failure}
 use Rattle.wh_diagnostics.specs.declared.failures.Failure.TheVariants.{BadLine, BadArguments, FewSlots, BadInput, Unreadable, NotJson, NotViewed, NotText, BadPolicies, Output, OutOfMemory}
 use Rattle.wh_file_commands.specs.Private.Refusals.{IsUnasked, IsWriteFailure}
-use Rattle.wh_file_commands.specs.Refusals.{IsUnqueriedPath, IsUnreportedAt, IsUnreportedInput, IsUnreportedPath}
+use Rattle.wh_file_commands.specs.Refusals.{IsUnqueriedPath, IsUnreportedInput, IsUnreportedPath}
 use Rattle.wh_file_faults.specs.Faults.{File}
 use Rattle.wh_files.specs.Inputs.{IsCalled, IsOf, IsReadFrom, IsSingle}
 use Rattle.wh_files.specs.declared.Input.{Input}
