@@ -1,5 +1,5 @@
 -- What stands on a console if a command of a file has no full report.
-use Rattle.std.proofs.Common.{◌≡◌, ◌∙◌, ℕ, refl, sym, subst}
+use Rattle.std.proofs.Common.{◌≡◌, ℕ, refl, sym, subst}
 use Rattle.std.specs.Prelude.{Result, Ok, Err, IfErr}
 use Rattle.std.specs.Io.KnownBytes.{Keeps}
 use Rattle.wh_console.proofs.Printing.{quiet_twice}
@@ -24,14 +24,6 @@ output_failed old first new (Err failure) quiet more failed = record {
   quiet = quiet_twice old first new quiet more;
   unwritten = λ other. absurd (other failed);
 }
-
--- a fault of the writer is one of the output
-pub writer_failed : (answer : Result ℕ CommandFault) (result : Result ℕ Failure)
-    → IfErr answer (λ fault. fault ≡ faults.Output) → IfErr result (λ failure. failure ≡ unflushed answer)
-    → IfErr result (λ failure. failure ≡ Output)
-writer_failed answer (Ok status) is failed = tt
-writer_failed (Ok given) (Err failure) is failed = failed
-writer_failed (Err fault) (Err failure) is failed = failed ∙ subst (λ f. unflushed (Err f) ≡ Output) (sym is) refl
 
 -- there was nothing to write, or it can't be written
 pub fault_flushed : (old first new : ConsoleView) (fault : CommandFault) (result : Result ℕ Failure)

@@ -2,7 +2,8 @@ use Rattle.std.proofs.Common.{ap, subst}
 use Rattle.std.specs.Prelude.{is_ok, string_bytes}
 use Rattle.wh_report.specs.Commands.{view_as}
 use Rattle.wh_diagnostics.proofs.Printed.{text_printed}
-use Rattle.wh_file_commands.proofs.Refused.{output_failed, writer_failed}
+use Rattle.wh_diagnostics.proofs.Printed.{writer_failed}
+use Rattle.wh_file_commands.proofs.Refused.{output_failed}
 use Rattle.wh_file_commands.proofs.Steps.{view_printed}
 use Rattle.wh_file_commands.proofs.Unshown.{unviewed_shown, unwritten_shown}
 use Rattle.wh_file_commands.specs.Private.Refusals.{IsUnviewed}
