@@ -1,7 +1,7 @@
 """Activities: those that the stand-in serves itself, and those that workers poll for."""
 
 from findings import readable
-from history import left_out
+from history import left_out, time_text
 from messages import milliseconds_of
 from peers import INVALID, NOT_FOUND, UNAVAILABLE, Refused
 from queues import Offer
@@ -19,7 +19,8 @@ class Activities:
         self.server, self.troubles, self.by_token, self.over = server, server.troubles, {}, set()
 
     def schedule(self, run, activity):
-        world = self.server.world
+        world, activity.scheduled_at = self.server.world, self.server.clock.now
+        activity.first_scheduled_at = activity.first_scheduled_at or activity.scheduled_at
         if world.serves(activity):
             delay, duration, end = world.activity(activity)
             return self.server.clock.at(delay, lambda: self.start_here(run, activity, duration, end))
@@ -74,9 +75,14 @@ class Activities:
             "activityType": {"name": activity.kind},
             "input": activity.input,
             "attempt": activity.attempt,
+            "scheduledTime": time_text(activity.first_scheduled_at),
+            "currentAttemptScheduledTime": time_text(activity.scheduled_at),
+            "startedTime": time_text(activity.started_at),
+            "scheduleToCloseTimeout": activity.whole_timeout,
             "startToCloseTimeout": activity.timeout,
             "heartbeatTimeout": activity.heartbeat,
             "heartbeatDetails": activity.details,
+            "retryPolicy": left_out(activity.policy),
         }
         return left_out(result)
 
@@ -84,13 +90,13 @@ class Activities:
         if is_open(run, activity) and activity.token == token:
             self.server.in_hand.forget(token)
             self.server.findings.counts["activities timed out"] += 1
-            if not self.try_again(run, activity):
-                failure = {"message": "timeout", "timeoutFailureInfo": {"timeoutType": kind}}
+            failure = {"message": "timeout", "timeoutFailureInfo": {"timeoutType": kind}}
+            if not self.try_again(run, activity, failure):
                 self.end(run, activity, "ActivityTaskTimedOut", {"failure": failure})
 
-    def try_again(self, run, activity):
+    def try_again(self, run, activity, failure):
         """Retries a failed activity if it may be retried, and returns whether it is."""
-        if activity.canceled or (activity.most and activity.attempt >= activity.most):
+        if not activity.may_be_tried_again(failure):
             return False
         activity.attempt += 1
         activity.token = activity.beaten_at = None
@@ -117,7 +123,7 @@ class Activities:
 
     def failed(self, peer, params):
         run, activity = self.answered(peer, params)
-        if not self.try_again(run, activity):
+        if not self.try_again(run, activity, params["failure"]):
             self.end(run, activity, "ActivityTaskFailed", {"failure": params["failure"]})
         return self.taken()
 

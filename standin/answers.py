@@ -95,7 +95,10 @@ class Answers:
         if self.server.troubles.happens("lost"):
             self.counts["lost answers"] += 1
             raise Refused(NOT_FOUND, "workflow task not found")
-        given.peer.cached[given.run] = given.task.started
+        if "resetHistoryEventId" in result:
+            given.peer.cached.pop(given.run, None)
+        else:
+            given.peer.cached[given.run] = given.task.started
         return result
 
     # What is wrong with an answer apart from its commands.

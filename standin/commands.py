@@ -14,6 +14,16 @@ CLOSINGS = {
 }
 
 
+def policy_fault(policy):
+    """Returns why a server refuses a retry policy, or an empty text. One of a single attempt is not looked at."""
+    first, most = (milliseconds_of(policy.get(name, "0s")) for name in ("initialInterval", "maximumInterval"))
+    if policy.get("maximumAttempts") == 1:
+        return ""
+    if policy.get("backoffCoefficient", 1) < 1:
+        return "BackoffCoefficient cannot be less than 1 on retry policy."
+    return "MaximumInterval cannot be less than InitialInterval on retry policy." if 0 < most < first else ""
+
+
 class Check:
     """What is open while the commands of one answer are checked in their order."""
 
@@ -39,7 +49,7 @@ class Check:
         if name in self.activities:
             return f"the activity {name} is open already"
         self.activities.add(name)
-        fault = "" if self.settings.has_policies else self.unasked(attributes)
+        fault = policy_fault(attributes.get("retryPolicy", {})) if self.settings.has_policies else self.unasked(attributes)
         return fault or self.queue(attributes)
 
     def unasked(self, attributes):

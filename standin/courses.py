@@ -23,8 +23,8 @@ MOST_COMMANDS = 4_096
 CLOSING = ("Complete", "Fail", "Cancel", "ContinueAsNew")
 OPENING = {"StartActivity": "activity", "StartTimer": "timer", "StartChild": "child"}
 CANCELLING = {"CancelActivity": "activity", "CancelTimer": "timer", "CancelChild": "child"}
-# What a worker answers for the query types that SDKs reserve.
-BUILT_IN = "built-in query types are not supported: "
+# What a worker answers to the query type `__stack_trace`.
+STACK_TRACE = "There is no stack trace: this worker runs a workflow as steps of a state, without coroutines."
 
 
 class Payload(bytes):
@@ -49,6 +49,13 @@ def payloads_in(attributes, name):
         payload.encoding = one.get("metadata", {}).get("encoding", "")
         found.append(payload)
     return found
+
+
+def built_in(kind):
+    """Returns what a query of a type that SDKs reserve gives."""
+    if kind == "__stack_trace":
+        return True, STACK_TRACE
+    return False, f"built-in query types are not supported: {kind}"
 
 
 def value_in(payloads):
@@ -221,7 +228,7 @@ class Course:
 
     def queried(self, kind, values):
         """Returns the result of a query after the last completed task: `(True, JSON value)` or `(False, text)`."""
-        return (False, BUILT_IN + kind) if kind.startswith("__") else self.program.query(kind, values)
+        return built_in(kind) if kind.startswith("__") else self.program.query(kind, values)
 
     def queried_beside(self, kind, values):
         """Does the same after the task that is being processed. Nothing more can be read then."""

@@ -173,7 +173,8 @@ History events 1 *HistoryEvent
 PollWorkflowTaskQueueRequest namespace 1 string, task_queue 2 TaskQueue, identity 3 string
 PollWorkflowTaskQueueResponse task_token 1 bytes, workflow_execution 2 WorkflowExecution, workflow_type 3
     WorkflowType, previous_started_event_id 4 int64, started_event_id 5 int64, attempt 6 int32, history 8 History,
-    next_page_token 9 bytes, query 10 WorkflowQuery, queries 14 >WorkflowQuery
+    next_page_token 9 bytes, query 10 WorkflowQuery, scheduled_time 12 Timestamp, started_time 13 Timestamp, queries 14
+    >WorkflowQuery
 RespondWorkflowTaskCompletedRequest task_token 1 bytes, commands 2 *Command, identity 3 string, sticky_attributes 4
     StickyExecutionAttributes, query_results 8 >WorkflowQueryResult, namespace 9 string
 RespondWorkflowTaskCompletedResponse reset_history_event_id 4 int64
@@ -183,7 +184,9 @@ RespondWorkflowTaskFailedResponse
 PollActivityTaskQueueRequest namespace 1 string, task_queue 2 TaskQueue, identity 3 string
 PollActivityTaskQueueResponse task_token 1 bytes, workflow_namespace 2 string, workflow_type 3 WorkflowType,
     workflow_execution 4 WorkflowExecution, activity_type 5 ActivityType, activity_id 6 string, input 8 Payloads,
-    heartbeat_details 9 Payloads, attempt 13 int32, start_to_close_timeout 15 Duration, heartbeat_timeout 16 Duration
+    heartbeat_details 9 Payloads, scheduled_time 10 Timestamp, current_attempt_scheduled_time 11 Timestamp, started_time
+    12 Timestamp, attempt 13 int32, schedule_to_close_timeout 14 Duration, start_to_close_timeout 15 Duration,
+    heartbeat_timeout 16 Duration, retry_policy 17 RetryPolicy
 RespondActivityTaskCompletedRequest task_token 1 bytes, result 2 Payloads, identity 3 string, namespace 4 string
 RespondActivityTaskCompletedResponse
 RespondActivityTaskFailedRequest task_token 1 bytes, failure 2 Failure, identity 3 string, namespace 4 string

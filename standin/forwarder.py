@@ -33,10 +33,10 @@ class Link:
 
 
 class Forwarder:
-    """A port that forwards to another one."""
+    """A port that forwards to another one, of this host or another one."""
 
-    def __init__(self, port):
-        self.target, self.links, self.lock = port, [], threading.Lock()
+    def __init__(self, port, host="127.0.0.1"):
+        self.target, self.links, self.lock = (host, port), [], threading.Lock()
         self.listener = self.listen(0)
         self.port = self.listener.getsockname()[1]
         self.serve()
@@ -52,7 +52,7 @@ class Forwarder:
         while True:
             try:
                 near, _ = listener.accept()
-                far = socket.create_connection(("127.0.0.1", self.target))
+                far = socket.create_connection(self.target)
             except OSError:
                 return
             link = Link(near, far)

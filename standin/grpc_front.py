@@ -19,12 +19,14 @@ from google.protobuf import json_format
 from clients import Clients
 from definitions import CLASSES
 from forwarder import Forwarder
-from peers import CANCELLED, DEADLINE, EXHAUSTED, UNAVAILABLE, Peer, Refused
+from peers import CANCELLED, DEADLINE, EXHAUSTED, NOT_FOUND, UNAVAILABLE, Peer, Refused
 
 TOP = Path(__file__).resolve().parent
 CODES = {code.value[0]: code for code in grpc.StatusCode}
 # The codes with which a worker's calls are refused for good: the bridge retries after the codes of an outage.
 FINAL_CODES = (9,)
+# The codes with which a proxy refuses polls in passing, which the bridge makes again.
+REFUSALS = (3, 5, 7, 16)
 MOST_THREADS = 400
 # After how many seconds a client's query is given up.
 QUERY_SECONDS = 8
@@ -81,7 +83,9 @@ class Calls(grpc.GenericRpcHandler):
         response = CLASSES[method + "Response"]
         if method == "GetSystemInfo":
             return response(server_version="stand-in")
-        params = json_format.MessageToDict(message)
+        params, own = json_format.MessageToDict(message), self.server.settings.namespace
+        if self.is_open and params.get("namespace", own) != own:
+            context.abort(CODES[NOT_FOUND], f"Namespace {params['namespace']} is not found.")
         with self.lock:
             peer = None if self.is_of_clients_alone(method) else self.peer_of(params, context)
         if peer is None and self.is_open and method in self.clients.later:
@@ -129,6 +133,8 @@ class Calls(grpc.GenericRpcHandler):
             self.last = time.monotonic()
             if peer is None or peer.is_gone:
                 return None, (UNAVAILABLE, "who are you?")
+            if method.startswith("Poll") and self.troubles.happens("refused"):
+                return None, (self.troubles.dice.choice(REFUSALS), "not yet")
             if not method.startswith("Poll") and self.troubles.happens("codes"):
                 return None, (UNAVAILABLE, "try again")
             if not method.startswith("Poll") and self.troubles.happens("busy"):

@@ -53,16 +53,25 @@ class Activity:
         self.kind = attributes["activityType"]["name"]
         self.queue = attributes["taskQueue"]["name"]
         self.input = attributes.get("input")
-        self.most = attributes.get("retryPolicy", {}).get("maximumAttempts", 0)
+        # What a worker sets, over what a server takes otherwise.
+        self.policy = {"initialInterval": "1s", "backoffCoefficient": 2, "maximumInterval": "100s", **attributes.get("retryPolicy", {})}
+        self.whole_timeout = attributes.get("scheduleToCloseTimeout")
         self.timeout, self.heartbeat = attributes.get("startToCloseTimeout", "60s"), attributes.get("heartbeatTimeout")
         self.attempt = 1
         self.token = None
-        self.started_at = None
+        self.first_scheduled_at = self.scheduled_at = self.started_at = None
         self.started = None
         self.canceled = False
         # The number of the event that requests its cancellation, the details of its last heartbeat, and when that came.
         self.cancel_requested = 0
         self.details = self.beaten_at = None
+
+
+    def may_be_tried_again(self, failure):
+        """Returns whether there are attempts left, and this failure is not one after which there are none."""
+        info, most = failure.get("applicationFailureInfo", {}), self.policy.get("maximumAttempts", 0)
+        is_last = info.get("nonRetryable") or info.get("type") in self.policy.get("nonRetryableErrorTypes", [])
+        return not (is_last or self.canceled or (most and self.attempt >= most))
 
 
 class Child:

@@ -35,7 +35,8 @@ class Peer:
         self.identity = self.sticky = None
         self.polls = 0
         # By run: the number of the last event that the run had when the server last acknowledged one of this worker's
-        # answers for it. The worker may only have cached such a run, and only if no other answer was accepted since.
+        # answers for it, but none if it discarded the task. The worker may only have cached such a run, and only if no
+        # other answer was accepted since.
         self.cached = {}
         # By run: the tasks of it that were given.
         self.has = {}

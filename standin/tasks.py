@@ -1,7 +1,7 @@
 """Workflow tasks: how they wait in queues, and what a poll gets."""
 
 from histories import page_of
-from history import left_out
+from history import left_out, time_text
 from peers import UNAVAILABLE, Given
 from queues import Offer
 
@@ -122,6 +122,8 @@ class WorkflowTasks:
             "previousStartedEventId": str(run.before) if run.before else "",
             "startedEventId": str(task.started),
             "attempt": task.attempt,
+            "scheduledTime": time_text(task.time),
+            "startedTime": time_text(task.started_time),
             "queries": {name: asked.form for name, asked in task.queries.items()} or None,
         }
         return left_out({**result, "history": {}, **page_of(page)})

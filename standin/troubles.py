@@ -25,6 +25,7 @@ KINDS = {
     "strangers": (0.03, "a run of a type that the workers have no code for"),
     "outside": (0.10, "a run is terminated, times out or is asked to be canceled"),
     "busy": (0.03, "an answer or a call for a page gets code 8 and is not taken, so that it is tried again (gRPC alone)"),
+    "refused": (0.02, "a poll is refused in passing, by a code that would end a worker (gRPC alone)"),
     "dead": (0.01, "a second in which a connection goes dead: nothing goes through, and nobody closes it (gRPC alone)"),
     "away": (0.05, "a second after which the server is away for some (gRPC alone)"),
 }

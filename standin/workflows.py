@@ -9,7 +9,7 @@ is known which commands it has to give, and of each history what a query gives t
 import base64
 import json
 
-from courses import BUILT_IN, Course, Fault, fault_of
+from courses import Course, Fault, built_in, fault_of
 from programs import PROGRAMS
 
 SECOND, DAY = 1_000, 86_400_000
@@ -106,7 +106,7 @@ class Workflows:
     def asks(self, run):
         """Returns the type and the arguments of a query for a run."""
         known = self.knows.get(run.kind, ())
-        kind = self.dice.choice(known) if known and self.dice.random() < 0.75 else self.dice.choice(("weather", "__stack_trace"))
+        kind = self.dice.choice(known) if known and self.dice.random() < 0.75 else self.dice.choice(("weather", "__stack_trace", "__open_sessions"))
         return kind, self.dice.choice((None, payloads(), payloads({"from": 1}, "x")))
 
     def queried(self, run, events, kind, values, is_beside=False):
@@ -116,7 +116,7 @@ class Workflows:
         if run.kind == STRANGE:
             return False, SAID_OF_STRANGE
         if kind.startswith("__"):
-            return False, BUILT_IN + kind
+            return built_in(kind)
         return None if kind in known else (False, f"unknown query type {kind}; known: {', '.join(known) or 'none'}")
 
     def goes_on(self, run):

@@ -2,13 +2,14 @@
 """Tries the bridge between a worker and a server, both of a few lines and here: what the server and the network do to it,
 what is wrong with its options and files, and how it ends. Each try is a function of the table at the end, and starts
 bridges of its own on 127.0.0.1. What is wrong is printed; the last line is `N tried, M wrong`, or `skipped: WHY` where
-Python's grpcio is not there. Words after its name are names of tries, all where there is none; `--long` tries those too
+Python's grpcio or protobuf is not there. Words after its name are names of tries, all where there is none; `--long` tries those too
 that take a minute; `--bridge FILE` tries another bridge."""
 
 import argparse
 import base64
 import json
 import os
+import re
 import signal
 import socket
 import subprocess
@@ -16,6 +17,8 @@ import sys
 import tempfile
 import threading
 import time
+import urllib.error
+import urllib.request
 from collections import Counter
 from concurrent.futures import ThreadPoolExecutor
 from pathlib import Path
@@ -27,13 +30,19 @@ sys.dont_write_bytecode = True
 os.environ.setdefault("GRPC_VERBOSITY", "NONE")
 try:
     import grpc
-    from definitions import CLASSES, SERVICE
     from google.protobuf import json_format
 except ImportError as missing:
     if sys.executable != SYSTEM and os.access(SYSTEM, os.X_OK):
         os.execv(SYSTEM, [SYSTEM, *sys.argv])
     print(f"skipped: {missing}, and the bridge needs grpcio and protobuf")
     sys.exit(0)
+
+from definitions import CLASSES, SERVICE
+
+try:
+    import yaml
+except ImportError:
+    yaml = None
 
 BRIDGE = TOP / "bridge/temporal_bridge.py"
 TRIMMED = TOP / "standin/trimmed"
@@ -130,6 +139,11 @@ class Server(grpc.GenericRpcHandler):
 def refuse(code, text="told so"):
     """A rule that refuses."""
     return lambda message, context, count: context.abort(CODES[code], text)
+
+
+def refuse_by_identity(message, context, count):
+    """A rule for polls: the identity says the code."""
+    context.abort(CODES[int(message.identity)], "no")
 
 
 def hang(message, context, count):
@@ -233,6 +247,7 @@ def outcome(response):
 
 POLL = {"namespace": "default", "taskQueue": {"name": "q"}, "identity": "me"}
 TASK, ANSWER, PAGE = "PollWorkflowTaskQueue", "RespondWorkflowTaskCompleted", "GetWorkflowExecutionHistory"
+POLL_ACTIVITY, END = "PollActivityTaskQueue", "RespondActivityTask"
 
 
 def base64_of(text):
@@ -260,27 +275,159 @@ def poll_with_a_task():
 def poll_cancelled_by_the_server():
     """Code 1 of a server or a proxy does not end a worker: it is given as code 14, under which it polls again."""
     with Server({TASK: refuse(1, "going away")}) as server, Bridge(server.port) as bridge:
-        same("outcome", bridge.answered(TASK, POLL), (14, "going away"))
+        same("outcome", bridge.answered(TASK, POLL), (14, f"{TASK} of q: going away; made again"))
         bridge.done()
 
 
-def polls_refused():
-    """Any other code of a poll is given as it came, and the poll is not tried again."""
-    codes = [2, 3, 5, 7, 8, 12, 13, 14, 16]
-    with Server({TASK: lambda message, context, _: context.abort(CODES[int(message.identity)], "no")}) as server:
-        with Bridge(server.port) as bridge:
-            for code in codes:
-                bridge.ask(code, TASK, {**POLL, "identity": str(code)})
-            responses = bridge.all(len(codes))
-            same("outcomes", [outcome(responses[code]) for code in codes], [(code, "no") for code in codes])
-            same("calls", server.calls[TASK], len(codes))
-            bridge.done()
+def polls_that_fail():
+    """Any other code of a poll is given as it came, and the bridge does not try it again."""
+    codes = [2, 8, 12, 13, 14]
+    with Server({TASK: refuse_by_identity}) as server, Bridge(server.port) as bridge:
+        for code in codes:
+            bridge.ask(code, TASK, {**POLL, "identity": str(code)})
+        responses = bridge.all(len(codes))
+        same("outcomes", [outcome(responses[code]) for code in codes], [(code, f"{TASK} of q: no; made again") for code in codes])
+        same("calls", server.calls[TASK], len(codes))
+        bridge.done()
+
+
+def polls_refused_in_passing():
+    """Codes that end a worker, as a proxy gives them in passing, are tried again: the worker does not see them."""
+    codes = ["3", "5", "7", "16"]
+
+    def rule(message, context, count):
+        return refuse_by_identity(message, context, count) if count < 4 else response_of(task_token=b"token")
+
+    with Server({TASK: rule}) as server, Bridge(server.port) as bridge:
+        for number, code in enumerate(codes):
+            bridge.ask(number, TASK, {**POLL, "identity": code})
+        same("outcomes", [outcome(one) for one in bridge.all(len(codes)).values()], [{"taskToken": "dG9rZW4="}] * len(codes))
+        same("calls", server.calls[TASK], 4 * len(codes))
+        bridge.send("@end 0")
+        said = bridge.end()
+        has("said", said, f"temporal_bridge: {TASK} of q is refused: no (code ")
+        same("lines", said.count("\n"), 1)
+
+
+def polls_refused_for_good():
+    """After --poll-grace such a code is the worker's matter, with one line that says what to do."""
+    rows = [
+        (3, "check the names of the Task Queue and of the namespace default"),
+        (5, "check that 127.0.0.1:PORT has the namespace default"),
+        (7, "check that the key or the certificate may use the namespace default"),
+        (16, "check that the key or the certificate is one of 127.0.0.1:PORT, and has not expired"),
+    ]
+    with Server({TASK: refuse_by_identity}) as server:
+        for code, what in rows:
+            with Bridge(server.port, "--poll-grace", "1") as bridge:
+                for number in range(3):
+                    bridge.ask(number, TASK, {**POLL, "identity": str(code)})
+                begun = time.monotonic()
+                wanted = (code, f"{TASK} of q: no; not made again")
+                same("outcomes", [outcome(one) for one in bridge.all(3).values()], [wanted] * 3)
+                same("one to four seconds", 0.9 < time.monotonic() - begun < 4, True)
+                bridge.send("@end 0")
+                lines = [f"is refused: no (code {code}); made again for 1 s", f"was refused for 1 s: no (code {code}); {what}"]
+                wanted = [f"temporal_bridge: {TASK} of q {line}" for line in lines]
+                same("said", bridge.end().replace(str(server.port), "PORT").splitlines(), wanted)
+        with Bridge(server.port, "--poll-grace", "0") as bridge:
+            same("outcome", bridge.answered(TASK, {**POLL, "identity": "7"}), (7, f"{TASK} of q: no; not made again"))
 
 
 def poll_without_a_task():
     """A poll that gets nothing in time is an empty one."""
     with Server({TASK: refuse(4)}) as server, Bridge(server.port) as bridge:
         same("outcome", bridge.answered(TASK, POLL), {})
+        bridge.done()
+
+
+def polls_that_end_at_once():
+    """Polls without a task that end at once are no busy loop: the pauses after them grow, until there is a task."""
+    tasks = [9]
+
+    def rule(message, context, count):
+        if server.calls[TASK] in tasks:
+            return response_of(task_token=b"token")
+        return b"" if server.calls[TASK] % 2 else context.abort(CODES[4], "late")
+
+    with Server({TASK: rule}) as server, Bridge(server.port) as bridge:
+        took = []
+        bridge.answered(ANSWER, answer_to("token"))  # It has started.
+        for _ in range(10):
+            begun = time.monotonic()
+            bridge.answered(TASK, POLL)
+            took.append(time.monotonic() - begun)
+        same("the first is not held up for long", took[0] < 0.5, True)
+        same("four more take at least", sum(took[1:5]) > 2.0, True)
+        same("none is held up for long", max(took) < 2, True)
+        same("a task is not held up", took[8] < 0.5, True)
+        same("the next one after a task neither", took[9] < 0.5, True)
+        bridge.done()
+
+
+def many_polls_that_end_at_once():
+    """Sixteen polls at once that end without a task are not held up as sixteen in turn would be."""
+    with Server() as server, Bridge(server.port) as bridge:
+        bridge.answered(ANSWER, answer_to("token"))  # It has started.
+        begun = time.monotonic()
+        for number in range(16):
+            bridge.ask(number, TASK, POLL)
+        same("outcomes", [outcome(one) for one in bridge.all(16).values()], [{}] * 16)
+        same("within a second", time.monotonic() - begun < 1, True)
+        bridge.done()
+
+
+def event_of_an_unknown_type():
+    """A type that the package does not know is a name with its number, and is told with the event's own number, once."""
+    events = [{"event_id": 6, "event_type": 55}, {"event_id": 7, "event_type": 99, "worker_may_ignore": True}]
+    task = response_of(task_token=b"token", workflow_execution={"workflow_id": "nap-1", "run_id": "first"}, history={"events": events})
+    page = CLASSES[PAGE + "Response"](history={"events": [{"event_id": 8, "event_type": 56}]}).SerializeToString()
+    with Server({TASK: lambda *_: task, PAGE: lambda *_: page}) as server, Bridge(server.port) as bridge:
+        for _ in range(2):
+            found = bridge.answered(TASK, POLL)["history"]["events"]
+            same("types", [event["eventType"] for event in found], ["EVENT_TYPE_55", "EVENT_TYPE_99"])
+        found = bridge.answered(PAGE, {"execution": {"workflowId": "nap-2", "runId": "last"}})
+        same("type", found["history"]["events"][0]["eventType"], "EVENT_TYPE_56")
+        bridge.send("@end 0")
+        lines = [(6, "nap-1 first", 55), (8, "nap-2 last", 56)]
+        told = "temporal_bridge: event {} of {} has the type {}, which this package temporalio does not know: pip install --upgrade temporalio"
+        same("said", bridge.end().splitlines(), [told.format(*line) for line in lines])
+
+
+def polls_that_hang():
+    """Polls to which there is no response are empty, and that is told once."""
+    with Server({TASK: lambda *_: time.sleep(80) or b""}) as server, Bridge(server.port) as bridge:
+        for number in range(2):
+            bridge.ask(number, TASK, POLL)
+        bridge.talk.settimeout(75)
+        same("outcomes", [outcome(one) for one in bridge.all(2).values()], [{}] * 2)
+        bridge.send("@end 0")
+        told = "got no response in 70 s, and a server gives one in a minute; made again"
+        same("said", bridge.end(), f"temporal_bridge: {TASK} of q {told}\n")
+
+
+def poll_with_an_activity():
+    """The task of an activity has its times, its timeouts and its retry policy, in which a bound that is not there is absent."""
+    policy = {"initial_interval": {"seconds": 1}, "backoff_coefficient": 2, "maximum_attempts": 0}
+    made = {
+        "task_token": b"token",
+        "scheduled_time": {"seconds": 60},
+        "started_time": {"seconds": 61, "nanos": 500_000_000},
+        "schedule_to_close_timeout": {"seconds": 90},
+        "start_to_close_timeout": {"nanos": 500_000_000},
+        "retry_policy": policy,
+    }
+    task = CLASSES[POLL_ACTIVITY + "Response"](**made).SerializeToString()
+    with Server({POLL_ACTIVITY: lambda *_: task}) as server, Bridge(server.port) as bridge:
+        wanted = {
+            "taskToken": "dG9rZW4=",
+            "scheduledTime": "1970-01-01T00:01:00Z",
+            "startedTime": "1970-01-01T00:01:01.500Z",
+            "scheduleToCloseTimeout": "90s",
+            "startToCloseTimeout": "0.500s",
+            "retryPolicy": {"initialInterval": "1s", "backoffCoefficient": 2.0},
+        }
+        same("task", bridge.answered(POLL_ACTIVITY, POLL), wanted)
         bridge.done()
 
 
@@ -347,6 +494,8 @@ def answers_refused():
         for number, token in enumerate(tokens):
             bridge.ask(number, ANSWER, answer_to(token))
         wanted = [(int(code), text) for code, _, text in (token.split(" ", 2) for token in tokens)]
+        told = f"{ANSWER}: no; the answer is lost, and its task comes again"
+        wanted = [(code, told if text == "no" and code not in (3, 5) else text) for code, text in wanted]
         same("outcomes", [outcome(one) for _, one in sorted(bridge.all(len(tokens)).items())], wanted)
         same("calls", server.calls[ANSWER], len(tokens))
         bridge.done()
@@ -370,10 +519,84 @@ def answers_not_for_long():
         same("outcome", bridge.answered(TASK, POLL), {})
         begun = time.monotonic()
         bridge.ask(1, ANSWER, answer_to("token"))
-        bridge.ask(2, PAGE, {"namespace": "default"})
+        bridge.ask(2, PAGE, {"namespace": "default", "execution": {"workflowId": "nap-1", "runId": "first"}})
         responses, took = bridge.all(2), time.monotonic() - begun
-        same("outcomes", (outcome(responses[1]), outcome(responses[2])), ((14, "no"), (8, "no")))
+        for number, code, text in [
+            (1, 14, f"{ANSWER}: no, tried for N s; the answer is lost, and its task comes again"),
+            (2, 8, f"{PAGE}: no, tried for N s; its task is given up, and comes again"),
+        ]:
+            found = outcome(responses[number])
+            same("outcome", (found[0], re.sub(r"for \d+ s", "for N s", found[1])), (code, text))
         same("eight to fifteen seconds", 8 < took < 15, True)
+        bridge.done()
+
+
+def history_refused():
+    """A history that is refused is told with what becomes of the task."""
+    with Server({PAGE: refuse(5, "bad token")}) as server, Bridge(server.port) as bridge:
+        found = bridge.answered(PAGE, {"execution": {"workflowId": "nap-1", "runId": "first"}})
+        same("outcome", found, (5, f"{PAGE}: bad token; its task is given up, and comes again"))
+        bridge.done()
+
+
+def answers_of_activities():
+    """The result of an activity is tried for longer than ten seconds, also where its response was late or a key changes. It
+    is lost where the server knows no such task, or takes nothing of the kind."""
+    tokens = [f"{code} {times} no" for code, times in [(14, 12), (4, 2), (7, 2), (16, 2), (3, 1), (5, 1)]]
+    methods = ["Completed", "Failed", "Canceled"]
+    with Server({f"{END}{kind}": by_token for kind in methods}) as server, Bridge(server.port) as bridge:
+        begun = time.monotonic()
+        for number, token in enumerate(tokens):
+            bridge.ask(number, END + methods[number % 3], {"taskToken": base64_of(token)})
+        wanted = [{}] * 4 + [(3, "no"), (5, "no")]
+        bridge.talk.settimeout(60)
+        same("outcomes", [outcome(one) for _, one in sorted(bridge.all(len(tokens)).items())], wanted)
+        same("more than ten seconds", time.monotonic() - begun > 12, True)
+        bridge.done()
+
+
+def long_answer_of_an_activity():
+    """The result of an activity is tried until its timeout, and no longer than a minute where that is shorter. It is told of
+    which activity."""
+    members = {"activity_type": {"name": "Charge"}, "workflow_execution": {"workflow_id": "nap-1", "run_id": "first"}}
+    tasks = iter([{"start_to_close_timeout": {"seconds": 200}}, {"start_to_close_timeout": {"seconds": 5}}])
+    begun = time.monotonic()
+
+    def give(*_):
+        token = f"token {time.monotonic()}".encode()
+        return CLASSES[POLL_ACTIVITY + "Response"](task_token=token, **members, **next(tasks)).SerializeToString()
+
+    def end(message, context, _):
+        if message.task_token == tokens[1] or time.monotonic() - begun < 70:
+            context.abort(CODES[14], "no")
+        return b""
+
+    with Server({POLL_ACTIVITY: give, END + "Completed": end}) as server, Bridge(server.port) as bridge:
+        found = [bridge.answered(POLL_ACTIVITY, POLL)["taskToken"] for _ in range(2)]
+        tokens = [base64.b64decode(token) for token in found]
+        bridge.talk.settimeout(90)
+        for number, token in enumerate(found):
+            bridge.ask(number, END + "Completed", {"taskToken": token})
+        responses = bridge.all(2)
+        same("the longer one", outcome(responses[0]), {})
+        code, text = outcome(responses[1])
+        wanted = f"{END}Completed of Charge of nap-1 first: no, tried for N s; the answer is lost, and the activity times out"
+        same("the shorter one", (code, re.sub(r"for \d+ s", "for N s", text)), (14, wanted))
+        bridge.done()
+
+
+def answer_of_an_activity_at_a_shutdown():
+    """After SIGTERM the result of an activity is tried for a minute, and not until its timeout."""
+    task = CLASSES[POLL_ACTIVITY + "Response"](task_token=b"token", start_to_close_timeout={"seconds": 9_000}).SerializeToString()
+    with Server({POLL_ACTIVITY: lambda *_: task, END + "Completed": refuse(14, "no")}) as server, Bridge(server.port) as bridge:
+        token = bridge.answered(POLL_ACTIVITY, POLL)["taskToken"]
+        bridge.ask(1, END + "Completed", {"taskToken": token})
+        bridge.child.terminate()
+        bridge.talk.settimeout(90)
+        begun = time.monotonic()
+        same("notice", bridge.next().get("method"), "shutdown")
+        same("code", outcome(bridge.next())[0], 14)
+        same("50 to 70 seconds", 50 < time.monotonic() - begun < 70, True)
         bridge.done()
 
 
@@ -606,7 +829,7 @@ def dead_connection():
 def made_files(path):
     """Two private keys, each with a certificate of this host, and files that are none, by their names."""
     for name in ("one", "two"):
-        words = f"req -x509 -newkey rsa:2048 -nodes -days 2 -subj /CN=localhost -addext subjectAltName=DNS:localhost"
+        words = "req -x509 -newkey rsa:2048 -nodes -days 2 -subj /CN=localhost -addext subjectAltName=DNS:localhost"
         subprocess.run(["openssl", *words.split(), "-keyout", f"{path}/{name}.key", "-out", f"{path}/{name}.pem"], check=True,
                        capture_output=True)
     locked = ["openssl", "rsa", "-aes128", "-passout", "pass:word", "-in", f"{path}/one.key", "-out", f"{path}/locked.key"]
@@ -668,6 +891,212 @@ def keys_that_are_wrong():
             same(repr(key), bridge.end(2), line)
 
 
+def key_file_that_changes():
+    """A key is read again when its file changes, also where a link leads to another one, and a bad one is told and not
+    used."""
+    with tempfile.TemporaryDirectory() as path:
+        made_files(path)
+        key, cert = (Path(path, name).read_bytes() for name in ("one.key", "one.pem"))
+        credentials = grpc.ssl_server_credentials([(key, cert)])
+        held, file = Path(path, "held"), Path(path, "api-key")
+        options = ["--tls-ca", f"{path}/one.pem", "--tls-server-name", "localhost", "--api-key-file", str(file)]
+        with Bridge(1, *options) as bridge:
+            has("said", bridge.end(2), "cannot read ")
+        held.write_text("first\n")
+        file.symlink_to(held)
+        with Server(credentials=credentials) as server, Bridge(server.port, *options, env={"TEMPORAL_API_KEY": "other"}) as bridge:
+
+            def sends(wanted):
+                bridge.answered(ANSWER, answer_to("token"))
+                return server.sent_beside(ANSWER)[-1].get("authorization") == f"Bearer {wanted}"
+
+            same("the first key", sends("first"), True)
+            held.write_text("\n")
+            time.sleep(5)
+            same("not an empty one", sends("first"), True)
+            other = Path(path, "other")
+            other.write_text("second")
+            Path(path, "link").symlink_to(other)
+            os.replace(Path(path, "link"), file)
+            soon("the second key", lambda: sends("second"))
+            bridge.send("@end 0")
+            fault = "is empty, or has a character that is not printable ASCII; what was read before it changed is used still"
+            same("said", bridge.end(), f"temporal_bridge: the API key in {file} {fault}\n")
+
+
+def certificates_that_change():
+    """A certificate and its key are read again when their files change; open polls go on, and bad files are told and not
+    used."""
+    with tempfile.TemporaryDirectory() as path:
+        made_files(path)
+        one, two = ((Path(path, name + ".key").read_bytes(), Path(path, name + ".pem").read_bytes()) for name in ("one", "two"))
+        mine = Path(path, "mine.key"), Path(path, "mine.pem")
+
+        def put(pair):
+            for file, text in zip(mine, pair):
+                file.write_bytes(text)
+
+        put(one)
+        shown, may_end = [], threading.Event()
+
+        def rule(message, context, count):
+            shown.append(context.auth_context()["x509_pem_cert"][0].strip())
+            if message.identity == "long":
+                may_end.wait(LIMIT_SECONDS)
+            return b""
+
+        files = ["--tls-ca", f"{path}/one.pem", "--tls-cert", str(mine[1]), "--tls-key", str(mine[0])]
+        credentials = grpc.ssl_server_credentials([one], one[1] + two[1], True)
+        with Server({TASK: rule, ANSWER: rule}, credentials=credentials) as server:
+            with Bridge(server.port, *files, "--tls-server-name", "localhost") as bridge:
+                bridge.ask(2, TASK, {**POLL, "identity": "long"})
+                soon("the poll is open", lambda: len(shown) == 1)
+
+                def shows(pair):
+                    bridge.answered(ANSWER, answer_to("token"))
+                    return shown[-1] == pair[1].strip()
+
+                same("the first certificate", shows(one), True)
+                mine[0].write_bytes(two[0])
+                time.sleep(5)
+                same("no half of a change", shows(one), True)
+                put(two)
+                soon("the second certificate", lambda: shows(two))
+                may_end.set()
+                same("the open poll", bridge.next(), {"jsonrpc": "2.0", "id": 2, "result": {}})
+                bridge.ask(3, TASK, {**POLL, "identity": "short"})
+                bridge.next()
+                same("a poll after it", shown[-1], two[1].strip())
+                bridge.send("@end 0")
+                fault = f"the private key in {mine[0]} is not the one of {mine[1]}; what was read before it changed is used still"
+                same("said", bridge.end(), f"temporal_bridge: {fault}\n")
+
+
+# Pages.
+
+
+def page_of(port, path):
+    """The status and the text of a page."""
+    try:
+        with urllib.request.urlopen(f"http://127.0.0.1:{port}{path}", timeout=5) as found:
+            return found.status, found.read().decode()
+    except urllib.error.HTTPError as why:
+        return why.code, why.read().decode()
+    except OSError as why:
+        return 0, str(why)
+
+
+def value_of(text, name, **labels):
+    """The value of a sample of a page, whose labels have to be these."""
+    found = [line.rpartition(" ") for line in text.splitlines() if line.startswith(f"{name}{{")]
+    wanted = ",".join(f'{key}="{value}"' for key, value in labels.items())
+    return next((float(value) for head, _, value in found if head == f"{name}{{{wanted}}}"), None)
+
+
+def page_of_metrics():
+    """The metrics are those of the calls, with their codes, and those of the worker's own file."""
+    rules = {TASK: refuse_by_identity, PAGE: refuse(9), POLL_ACTIVITY: refuse(4)}
+    with tempfile.TemporaryDirectory() as path, Server(rules) as server:
+        port, own = free_port(), Path(path, "own.prom")
+        with Bridge(server.port, "--listen", f"127.0.0.1:{port}", "--worker-metrics", str(own)) as bridge:
+            bridge.answered(ANSWER, answer_to("token"))
+            for code in (14, 8, 14):
+                bridge.answered(TASK, {**POLL, "identity": str(code)})
+            bridge.answered(POLL_ACTIVITY, POLL)
+            bridge.answered(PAGE, {"namespace": 'a"b', "execution": {}})
+            status, text = page_of(port, "/metrics")
+            same("status", status, 200)
+            rows = [
+                (1, "temporal_request_total", {"namespace": "default", "operation": "GetSystemInfo"}),
+                (1, "temporal_request_total", {"namespace": "default", "operation": ANSWER}),
+                (1, "temporal_request_total", {"namespace": 'a\\"b', "operation": PAGE}),
+                (1, "temporal_request_failure_total", {"namespace": 'a\\"b', "operation": PAGE, "status_code": "FAILED_PRECONDITION"}),
+                (3, "temporal_long_request_total", {"namespace": "default", "operation": TASK}),
+                (2, "temporal_long_request_failure_total", {"namespace": "default", "operation": TASK, "status_code": "UNAVAILABLE"}),
+                (1, "temporal_long_request_failure_total", {"namespace": "default", "operation": TASK, "status_code": "RESOURCE_EXHAUSTED"}),
+                (1, "temporal_long_request_total", {"namespace": "default", "operation": POLL_ACTIVITY}),
+                (3, "temporal_long_request_latency_seconds_bucket", {"namespace": "default", "operation": TASK, "le": "+Inf"}),
+                (3, "temporal_long_request_latency_seconds_count", {"namespace": "default", "operation": TASK}),
+            ]
+            same("values", [value_of(text, name, **labels) for _, name, labels in rows], [value for value, _, _ in rows])
+            same("an empty poll is no failure", f'failure_total{{namespace="default",operation="{POLL_ACTIVITY}"' in text, False)
+            kinds = [line.split()[2] for line in text.splitlines() if line.startswith("# TYPE ")]
+            same("each family once", len(kinds), len(set(kinds)))
+            own.write_text("wfhost_polls_total 5\n")
+            has("metrics", page_of(port, "/metrics")[1], "\nwfhost_polls_total 5\n")
+            same("live", page_of(port, "/live")[0], 200)
+            same("no page", page_of(port, "/other")[0], 404)
+            bridge.done()
+
+
+def page_of_readiness():
+    """It is ready where a poll has succeeded or is open for a while; and not before, where all are refused, after a stop."""
+    modes = ["refuse"]
+
+    def rule(message, context, count):
+        return {"refuse": refuse(7), "empty": lambda *_: b"", "hang": hang}[modes[0]](message, context, count)
+
+    with Server({TASK: rule}) as server:
+        port = free_port()
+        with Bridge(server.port, "--listen", f"127.0.0.1:{port}", "--poll-grace", "0") as bridge:
+            bridge.answered(ANSWER, answer_to("token"))
+            same("no poll yet", page_of(port, "/ready"), (503, "no poll succeeds\n"))
+            bridge.answered(TASK, POLL)
+            same("all are refused", page_of(port, "/ready")[0], 503)
+            modes[0] = "empty"
+            bridge.answered(TASK, POLL)
+            same("one has succeeded", page_of(port, "/ready"), (200, "polls succeed\n"))
+            modes[0] = "refuse"
+            bridge.answered(TASK, POLL)
+            same("all are refused again", page_of(port, "/ready")[0], 503)
+            modes[0] = "hang"
+            bridge.ask(1, TASK, POLL)
+            same("a poll was only just made", page_of(port, "/ready")[0], 503)
+            soon("a poll is open for a while", lambda: page_of(port, "/ready")[0] == 200)
+            bridge.child.terminate()
+            bridge.next()
+            same("it stops", page_of(port, "/ready")[0], 503)
+            same("it lives", page_of(port, "/live")[0], 200)
+            bridge.send("@end 0")
+            bridge.end()
+
+
+def places_to_listen_that_are_wrong():
+    """Where it can't listen that is told, with status 2."""
+    with socket.create_server(("127.0.0.1", 0)) as taken:
+        port = taken.getsockname()[1]
+        rows = [
+            (f"127.0.0.1:{port}", "Address already in use"),
+            ("here", "it has to be HOST:PORT"),
+            ("127.0.0.1:x", "it has to be HOST:PORT"),
+            ("127.0.0.1:70000", "it has to be HOST:PORT"),
+        ]
+        for place, why in rows:
+            with Bridge(1, "--listen", place) as bridge:
+                same(place, bridge.end(2), f"temporal_bridge: cannot listen on {place}: {why}\n")
+
+
+def files_of_a_deployment():
+    """In the files of examples/deploy each option of the bridge is one, and each metric is one of the bridge's or the host's. They
+    are YAML, which is looked at where Python's yaml is there."""
+    folder = TOP / "examples/deploy"
+    for file in folder.glob("*.yaml") if yaml else ():
+        same(f"documents in {file.name}", [type(one) for one in yaml.safe_load_all(file.read_text())], [dict])
+    told = subprocess.run([sys.executable, str(BRIDGE), "--help"], capture_output=True, text=True).stdout
+    known, found = set(re.findall(r"^  (--[a-z-]+)", told, re.MULTILINE)), set()
+    for name in ("kubernetes.yaml", "orders-worker.service"):
+        words = re.sub(r"#.*", "", (folder / name).read_text()).replace('"', "").split()
+        words = [word for word in words[: words.index("--") if "--" in words else None] if word != "-"]
+        found |= {word for word in words if word.startswith("--")}
+    same("options that are none", sorted(found - known), [])
+    has("options", found, "--listen")
+    sources = "".join(file.read_text() for file in [BRIDGE.parent / "counts.py", *TOP.glob("crates/wh_metrics/src/*.rt")])
+    metrics = set(re.findall(r"\b(?:temporal|wfhost)_\w+", (folder / "alerts.yaml").read_text()))
+    families = {re.sub(r"_(failure_)?total$", "", name) if name.startswith("temporal") else name for name in metrics}
+    same("metrics that are none", [name for name in sorted(families - {"temporal_"}) if f'"{name}"' not in sources], [])
+    has("metrics", metrics, "wfhost_tasks_total")
+
+
 # Ends.
 
 
@@ -685,6 +1114,20 @@ def shutdown_with_an_open_poll():
             same("answer", bridge.answered(ANSWER, answer_to("token")), {})
             same("polls", server.calls[TASK], 1)
             bridge.done()
+
+
+def shutdown_with_a_refused_poll():
+    """SIGTERM: a poll that is refused, or is empty at once, is not waited for."""
+    with Server({TASK: refuse_by_identity}) as server, Bridge(server.port) as bridge:
+        bridge.ask(1, TASK, {**POLL, "identity": "7"})
+        soon("the poll was tried some times", lambda: server.calls[TASK] == 5)
+        bridge.child.terminate()
+        begun = time.monotonic()
+        same("notice", bridge.next().get("method"), "shutdown")
+        same("poll", outcome(bridge.next()), (1, "shutdown"))
+        same("at once", time.monotonic() - begun < 1, True)
+        bridge.send("@end 0")
+        bridge.end()
 
 
 def shutdown_of_a_worker_that_does_not_read():
@@ -758,17 +1201,25 @@ def packages_that_are_missing():
 
 
 TRIES = [
+    answers_of_activities,
     answers_not_for_long,
     server_away_and_back,
     response_too_large,
     poll_with_a_task,
+    poll_with_an_activity,
     poll_cancelled_by_the_server,
-    polls_refused,
+    polls_that_fail,
+    polls_refused_in_passing,
+    polls_refused_for_good,
     poll_without_a_task,
+    polls_that_end_at_once,
+    many_polls_that_end_at_once,
+    event_of_an_unknown_type,
     polls_beside_answers,
     answers_tried_again,
     answer_that_carries_over,
     answers_refused,
+    history_refused,
     answer_too_large,
     requests_that_are_wrong,
     lines_that_are_wrong,
@@ -782,14 +1233,21 @@ TRIES = [
     tls_files_that_are_wrong,
     tls_and_a_key,
     keys_that_are_wrong,
+    key_file_that_changes,
+    certificates_that_change,
+    page_of_metrics,
+    page_of_readiness,
+    places_to_listen_that_are_wrong,
+    files_of_a_deployment,
     shutdown_with_an_open_poll,
+    shutdown_with_a_refused_poll,
     shutdown_of_a_worker_that_does_not_read,
     shutdown_twice,
     interrupted_at_the_start,
     ends_of_a_worker,
     packages_that_are_missing,
 ]
-LONG = [dead_connection]
+LONG = [dead_connection, polls_that_hang, long_answer_of_an_activity, answer_of_an_activity_at_a_shutdown]
 
 
 def fault_of(one):

@@ -6,12 +6,11 @@ table examples/tables/trip.json; one of them books all, the other one has to und
     tests/elsewhere.py [--program PATH]
 
 Each step of each run is compared: which activity, on which queue, how it ended, and how the run closed. The last line is
-`N tried, M wrong`, and the status is 1 where one is wrong. Where grpcio is missing it is `skipped: WHY`."""
+`N tried, M wrong`, and the status is 1 where one is wrong. Where grpcio or protobuf is missing it is `skipped: WHY`."""
 
 import argparse
 import base64
-import importlib.util
-import json
+import importlib
 import os
 import subprocess
 import sys
@@ -145,14 +144,25 @@ def tried(program, name, trial):
     return faults
 
 
+def lacking():
+    """Which package can't be imported, or None."""
+    for name in ("grpc", "google.protobuf"):
+        try:
+            importlib.import_module(name)
+        except ImportError as why:
+            return why
+    return None
+
+
 def main():
     parser = argparse.ArgumentParser(description=__doc__, formatter_class=argparse.RawDescriptionHelpFormatter)
     parser.add_argument("--program", default=str(TOP / "crates/wfhost/out/wfhost"))
     asked = parser.parse_args()
-    if importlib.util.find_spec("grpc") is None and sys.executable != SYSTEM and os.access(SYSTEM, os.X_OK):
+    why = lacking()
+    if why and sys.executable != SYSTEM and os.access(SYSTEM, os.X_OK):
         os.execv(SYSTEM, [SYSTEM, *sys.argv])
-    if importlib.util.find_spec("grpc") is None:
-        print("skipped: grpcio is missing, which Debian's package python3-grpcio has")
+    if why:
+        print(f"skipped: {why}, and workers in Python need grpcio and protobuf")
         return 0
     sys.path.insert(0, str(TRIMMED))
     wrong = 0

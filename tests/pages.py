@@ -12,7 +12,7 @@ rows that it took, and no other page has one.
     .. --sizes                            prints how large each page is, and how long it took
     .. --shots FOLDER                     then pictures of some pages by Chromium: wide and narrow, light and dark
 
-The last line is `N tried, M wrong`, or `skipped: WHY` where the program knows no pages."""
+The last line is `N tried, M wrong`."""
 
 import argparse
 import base64
@@ -445,8 +445,7 @@ def main():
     words = parser.parse_args()
     program = Program(words.program)
     if "--html" not in program.run("explain", "--help").stdout.decode():
-        print("skipped: the program makes no pages")
-        return 0
+        sys.exit("pages: the program makes no pages")
     plain = [f"plain-{i}" for i in range(8)] + ["PlainType"]
     hostile = [(f"{i}{HOSTILE}" + f"{i}<b>long</b> \"name\" 'of' a & thing, " * 9)[:255] for i in range(9)]
     count = wrong = 0

@@ -8,12 +8,15 @@
 
 It starts runs of the samples (and of orders, if --orders names the program that has them), signals some and requests the
 cancellation of some, kills the bridge and its worker meanwhile and starts them again, and waits until all runs are closed.
+It reads the pages of the bridge (--listen), and then tries the bridge alone, as its worker: a namespace that is not there, and
+the result of an activity while the way to the server is away for a quarter of a minute.
 Then it fetches each history by GetWorkflowExecutionHistory, writes it to a file in the form of the Temporal CLI, and
 replays the folder with the program. The last line is `N runs, N closed, 0 wrong`, and the exit status is 1 if anything is
 wrong. Children, and runs that continue others as new, count as runs too. It uses task queues and workflow ids of its own,
 terminates the runs that are still open at its end, also after Ctrl-C, and takes no more than --minutes.
 
-With --stand-in it starts the stand-in of standin/ in place of a server. It has been tried against that only.
+With --stand-in it starts the stand-in of standin/ in place of a server. It has been tried against that only. With it
+--program may be 'python3 tests/small_worker.py'.
 """
 
 import argparse
@@ -22,15 +25,19 @@ import os
 import random
 import re
 import signal
+import socket
 import subprocess
 import sys
 import tempfile
 import time
+import urllib.error
+import urllib.request
 import uuid
 from collections import Counter
 from pathlib import Path
 
 TOP = Path(__file__).resolve().parent.parent
+sys.path += [str(TOP / "tests"), str(TOP / "standin")]
 sys.dont_write_bytecode = True
 TRIMMED = TOP / "standin/trimmed"
 BRIDGE = TOP / "bridge/temporal_bridge.py"
@@ -38,7 +45,9 @@ PROGRAM = TOP / "crates/wfhost/out/wfhost"
 STAND_IN = TOP / "standin/serve.py"
 SERVICE = "/temporal.api.workflowservice.v1.WorkflowService/"
 CALL_SECONDS, PAGE_EVENTS, END_SECONDS, REPLAY_SECONDS = 10, 100, 30, 600
-NOT_FOUND = 5
+# How long the way to the server is away, and how long a poll of the bridge alone may take.
+AWAY_SECONDS, TASK_SECONDS = 15, 90
+NOT_FOUND, DENIED = 5, 7
 # Codes after which a call may do better a little later.
 PASSING = (2, 4, 8, 10, 14)
 RUNNING = 1
@@ -49,7 +58,7 @@ CANCELS = {"Greet": 0.3}
 # The queries that runs of a type answer, with all answers, of which the last one is that of a closed run.
 QUERIES = {"Order": ("status", ['"charging"', '"held"', '"shipping"', '"closed"']), "Racer": ("phase", ['"racing"', '"late"', '"done"'])}
 # The options that the bridge is given as they are, beside --tls.
-BRIDGE_OPTIONS = ("--tls-cert", "--tls-key", "--tls-ca", "--tls-server-name", "--api-key")
+BRIDGE_OPTIONS = ("--tls-cert", "--tls-key", "--tls-ca", "--tls-server-name", "--api-key", "--api-key-file")
 OPENINGS = ("activityTaskScheduledEventAttributes", "startChildWorkflowExecutionInitiatedEventAttributes")
 CHILD = "childWorkflowExecutionStartedEventAttributes"
 STARTED, CONTINUED = "workflowExecutionStartedEventAttributes", "workflowExecutionContinuedAsNewEventAttributes"
@@ -77,13 +86,14 @@ class Client:
         self.grpc, self.json, self.messages = grpc, json_format, messages
         self.namespace, self.identity = asked.namespace, f"real_server-{os.getpid()}"
         self.channel, self.beside = self.connect(asked, address), [("temporal-namespace", asked.namespace)]
-        if asked.api_key:
-            self.beside.append(("authorization", f"Bearer {asked.api_key.strip()}"))
+        key = Path(asked.api_key_file).read_text() if asked.api_key_file else asked.api_key
+        if key:
+            self.beside.append(("authorization", f"Bearer {key.strip()}"))
 
     def connect(self, asked, address):
         """A channel, with TLS where the bridge uses it too: where it or something of it is asked for, or a key is shown."""
         files = asked.tls_ca, asked.tls_key, asked.tls_cert
-        if not (asked.tls or any(files) or asked.tls_server_name or asked.api_key):
+        if not (asked.tls or any(files) or asked.tls_server_name or asked.api_key or asked.api_key_file):
             return self.grpc.insecure_channel(address)
         held = [Path(file).read_bytes() if file else None for file in files]
         name = asked.tls_server_name
@@ -168,17 +178,39 @@ class Client:
                 return events
 
 
+def options_of(asked):
+    """The options that the bridge is given as they are."""
+    values = [(option, getattr(asked, option[2:].replace("-", "_"))) for option in BRIDGE_OPTIONS]
+    return ["--namespace", asked.namespace, *["--tls"] * asked.tls, *(word for pair in values if pair[1] for word in pair)]
+
+
+def free_port():
+    with socket.socket() as one:
+        one.bind(("127.0.0.1", 0))
+        return one.getsockname()[1]
+
+
+def page(port, path):
+    """The status and the text of a page of a bridge, or 0 and why there is none."""
+    try:
+        with urllib.request.urlopen(f"http://127.0.0.1:{port}{path}", timeout=CALL_SECONDS) as found:
+            return found.status, found.read().decode()
+    except urllib.error.HTTPError as why:
+        return why.code, why.read().decode()
+    except OSError as why:
+        return 0, str(why)
+
+
 class Worker:
     """A bridge with a worker behind it."""
 
     def __init__(self, asked, address, program, queue):
-        words = [sys.executable, str(asked.bridge), "--address", address, "--namespace", asked.namespace]
-        words += ["--tls"] * asked.tls
-        for option in BRIDGE_OPTIONS:
-            value = getattr(asked, option[2:].replace("-", "_"))
-            words += [option, value] if value else []
+        self.room, self.port = tempfile.TemporaryDirectory(), free_port()
+        metrics = f"{self.room.name}/worker.prom"
+        words = [sys.executable, str(asked.bridge), "--address", address, *options_of(asked)]
+        words += ["--listen", f"127.0.0.1:{self.port}", "--worker-metrics", metrics]
         words += ["--", *program, "work", "--task-queue", queue, "--namespace", asked.namespace, "--identity", "{identity}"]
-        words += ["--activity-workers", "2", "--cache", "10", "--sticky-timeout", "5"]
+        words += ["--activity-workers", "2", "--cache", "10", "--sticky-timeout", "5", "--metrics", metrics]
         self.words, self.said, self.child = words, tempfile.TemporaryFile(), None
 
     def start(self):
@@ -208,6 +240,16 @@ class Worker:
             self.kill()
             return None
 
+    def faults_of_pages(self):
+        """What is wrong with the pages of a worker that polls."""
+        until, pages = time.monotonic() + CALL_SECONDS, {}
+        while time.monotonic() < until and pages.get("/ready", (0, ""))[0] != 200:
+            time.sleep(0.5)
+            pages = {path: page(self.port, path) for path in ("/live", "/ready", "/metrics")}
+        faults = [f"{path} gives {status} {text!r}" for path, (status, text) in pages.items() if status != 200]
+        names = ('temporal_request_total{', 'temporal_long_request_latency_seconds_count{', 'operation="GetSystemInfo"')
+        return faults + [f"/metrics is without {name}" for name in names if name not in pages["/metrics"][1]]
+
     def report(self):
         """What it has said on standard error."""
         self.said.seek(0)
@@ -222,6 +264,107 @@ class Service:
         self.worker = Worker(asked, address, program, queue)
 
 
+class Alone:
+    """The bridge alone. This script is its worker, which has the code of Greet, over a way to the server that can be away."""
+
+    def __init__(self, asked, address, client, queue):
+        import bridge
+        from forwarder import Forwarder
+
+        host, _, port = address.rpartition(":")
+        self.client, self.queue, self.way, self.wrong = client, queue, Forwarder(int(port), host), []
+        self.same = {"namespace": asked.namespace, "identity": f"{queue}-alone"}
+        self.may_repeat = not asked.stand_in  # It takes a second answer for a fault.
+        self.sticky = {"kind": "TASK_QUEUE_KIND_STICKY", "name": f"{queue}-alone:{queue}", "normalName": queue}
+        self.port, words = free_port(), options_of(asked)
+        if len(words) > 2 and not asked.tls_server_name:
+            words += ["--tls-server-name", host]
+        words += ["--poll-grace", "2", "--listen", f"127.0.0.1:{self.port}"]
+        bridge.BRIDGE = Path(asked.bridge)
+        self.bridge = bridge.Bridge(self.way.port, *words, path=os.environ.get("PYTHONPATH", ""))
+
+    def run(self):
+        """The trial: the execution of the run, which is closed then."""
+        execution = self.client.start("Greet", f"{self.queue}-greet", self.queue, payloads("bridge"))
+        with self.bridge:
+            try:
+                self.refuse()
+                self.schedule()
+                self.end_activity()
+                self.complete()
+                for path in ("/live", "/ready"):
+                    self.see(path, page(self.port, path)[0], 200)
+                failed = 'temporal_request_failure_total{namespace="%s",operation="RespondActivityTaskCompleted",status_code="UNAVAILABLE"}'
+                self.see("the calls that failed are counted", failed % self.same["namespace"] in page(self.port, "/metrics")[1], True)
+            except Exception as why:
+                self.wrong.append(f"the bridge alone: {type(why).__name__}: {why}")
+        return execution
+
+    def see(self, what, found, wanted):
+        if found != wanted:
+            self.wrong.append(f"the bridge alone: {what}: {found!r}, not {wanted!r}")
+
+    def poll(self, kind, queue=None):
+        """The next task of a Task Queue, the normal one if none is given."""
+        queue, until = queue or {"kind": "TASK_QUEUE_KIND_NORMAL", "name": self.queue}, time.monotonic() + TASK_SECONDS
+        while time.monotonic() < until:
+            found = self.bridge.answered(f"Poll{kind}TaskQueue", {**self.same, "taskQueue": queue})
+            if isinstance(found, dict) and found:
+                return found
+            time.sleep(0.2)
+        raise Wrong(f"no {kind.lower()} task comes: {found}")
+
+    def answer(self, task, kind, attributes):
+        """Answers a workflow task by one command."""
+        parts = [part.capitalize() for part in kind.split("_")]
+        member = parts[0].lower() + "".join(parts[1:]) + "CommandAttributes"
+        params = {
+            "commands": [{"commandType": f"COMMAND_TYPE_{kind}", member: attributes}],
+            "queryResults": {},
+            "stickyAttributes": {"scheduleToStartTimeout": "60s", "workerTaskQueue": self.sticky},
+            "taskToken": task["taskToken"],
+        }
+        self.see(kind, self.bridge.answered("RespondWorkflowTaskCompleted", {**self.same, **params}), {})
+
+    def refuse(self):
+        """A namespace that is not there: the poll is refused, after --poll-grace."""
+        queue, begun = {"kind": "TASK_QUEUE_KIND_NORMAL", "name": self.queue}, time.monotonic()
+        self.bridge.ask(1, "PollWorkflowTaskQueue", {**self.same, "namespace": f"no-{uuid.uuid4().hex}", "taskQueue": queue})
+        self.bridge.talk.settimeout(TASK_SECONDS)
+        error = self.bridge.next().get("error", {})
+        self.see("the code of a namespace that is not there", error.get("code") in (NOT_FOUND, DENIED), True)
+        self.see("it was tried for a while", time.monotonic() - begun > 1, True)
+
+    def schedule(self):
+        """The first task, of whose events each type has a name."""
+        task = self.poll("Workflow")
+        types = [event["eventType"] for event in task["history"]["events"]]
+        self.see("types of events", [kind for kind in types if not kind.startswith("EVENT_TYPE_")], [])
+        self.input = task["history"]["events"][0][STARTED]["input"]
+        attributes = {"activityId": "1", "activityType": {"name": "greet"}, "input": self.input, "taskQueue": {"name": self.queue}}
+        attributes.update(retryPolicy={"maximumAttempts": 1}, startToCloseTimeout="60s")
+        self.answer(task, "SCHEDULE_ACTIVITY_TASK", attributes)
+
+    def end_activity(self):
+        """The result of the activity, while the way to the server is away. A second one is refused at once."""
+        task = self.poll("Activity")
+        self.see("the timeout of the activity", task.get("startToCloseTimeout"), "60s")
+        self.see("its attempts", task.get("retryPolicy", {}).get("maximumAttempts"), 1)
+        params = {**self.same, "result": self.input, "taskToken": task["taskToken"]}
+        self.way.leave(AWAY_SECONDS)
+        begun = time.monotonic()
+        self.see("the result of the activity", self.bridge.answered("RespondActivityTaskCompleted", params), {})
+        self.see("it is taken once the server is back", AWAY_SECONDS - 1 < time.monotonic() - begun < 2 * AWAY_SECONDS, True)
+        if self.may_repeat:
+            begun = time.monotonic()
+            self.see("a second result", self.bridge.answered("RespondActivityTaskCompleted", params)[:1], (NOT_FOUND,))
+            self.see("it is refused at once", time.monotonic() - begun < CALL_SECONDS / 2, True)
+
+    def complete(self):
+        """The second task of the run, after which it is closed."""
+        self.answer(self.poll("Workflow", self.sticky), "COMPLETE_WORKFLOW_EXECUTION", {"result": self.input})
+
+
 class Trial:
     """The whole trial."""
 
@@ -232,6 +375,7 @@ class Trial:
         self.services = [Service(asked, address, asked.program, queue, SAMPLES)]
         if asked.orders:
             self.services.append(Service(asked, address, asked.orders, queue + "-orders", ("Order",)))
+        self.address, self.queue = address, queue
         self.executions, self.wrong, self.done = {}, [], Counter()
         self.until = time.monotonic() + asked.minutes * 60
 
@@ -293,6 +437,13 @@ class Trial:
         for service in self.services:
             service.worker.start()
 
+    def try_alone(self):
+        """Tries the bridge alone, by a run that is one of the samples then."""
+        alone = Alone(self.asked, self.address, self.client, self.queue + "-bridge")
+        execution = alone.run()
+        self.executions[execution["workflow_id"]] = (self.services[0], "Greet", execution)
+        self.wrong += alone.wrong
+
     def open_ones(self):
         """The types and the executions of the runs that are open: of a run that was continued as new, the last one."""
         last = [(kind, {"workflow_id": workflow_id}) for workflow_id, (_, kind, _) in self.executions.items()]
@@ -325,12 +476,14 @@ class Trial:
             time.sleep(self.asked.pause)
             self.disturb()
             self.ask()
+            self.wrong += [f"{service.queue}: {fault}" for service in self.services for fault in service.worker.faults_of_pages()]
             self.kill_workers()
             time.sleep(self.asked.pause)
             self.disturb()
             self.ask()
             self.wait()
             self.ask(are_closed=True)
+            self.try_alone()
             self.say(", ".join(f"{count} {what}" for what, count in self.done.items()))
         except (Wrong, KeyboardInterrupt) as why:
             self.wrong.append(str(why) or "interrupted")
@@ -418,7 +571,8 @@ class StandIn:
     """The stand-in as a server."""
 
     def __init__(self, queues):
-        words = [sys.executable, str(STAND_IN), "--task-queues", ",".join(queues)]
+        # So fast that its timers are short, and so slow that no activity times out while the way to it is away.
+        words = [sys.executable, str(STAND_IN), "--task-queues", ",".join(queues), "--speed", "2"]
         self.child = subprocess.Popen(words, stdout=subprocess.PIPE, stderr=subprocess.PIPE, text=True)
         self.address = "127.0.0.1:" + self.child.stdout.readline().strip()
 
@@ -448,7 +602,7 @@ def options():
     parser.add_argument("--seed", type=int, default=1, help="which runs are signaled and asked to be canceled (1)")
     parser.add_argument("--tls", action="store_true", help="as for the bridge, as are the following")
     for name in BRIDGE_OPTIONS:
-        parser.add_argument(name, metavar="KEY" if name == "--api-key" else "NAME" if name.endswith("-name") else "FILE")
+        parser.add_argument(name, metavar={"--api-key": "KEY", "--tls-server-name": "NAME"}.get(name, "FILE"))
     return parser.parse_args()
 
 
@@ -480,7 +634,7 @@ def main():
     if asked.stand_in:
         use_trimmed()
         asked.task_queue = asked.task_queue or "trial"
-        stand_in = StandIn([asked.task_queue, asked.task_queue + "-orders"])
+        stand_in = StandIn([asked.task_queue + end for end in ("", "-orders", "-bridge")])
     runs, closed, wrong = try_all(asked, stand_in.address if stand_in else asked.address)
     wrong += stand_in.stop() if stand_in else []
     for what in wrong:

@@ -243,7 +243,7 @@ def tell(title, runs, wrong, more=""):
 
 def main():
     if not PROGRAM.exists():
-        sys.exit("the program is not built: start ./wfhost once")
+        sys.exit("the program is not built: run `./wfhost --build`")
     if not CALLER.exists():
         sys.exit("the program of the calls is not built: run `rt run` in crates/bench_trials")
     with tempfile.TemporaryDirectory() as room:

@@ -15,7 +15,6 @@ import subprocess
 import sys
 import tempfile
 import time
-from pathlib import Path
 
 from refusals import PROGRAM, Refusals
 
@@ -140,7 +139,7 @@ def try_one(refusals, number):
 
 def main():
     if not PROGRAM.exists():
-        sys.exit("the program is not built: start ./wfhost once")
+        sys.exit("the program is not built: run `./wfhost --build`")
     with tempfile.TemporaryDirectory() as room:
         refusals = Refusals(room)
         first, last, answered, cached = try_one(refusals, 0)

@@ -97,7 +97,8 @@ def segment_of(word, head):
     name = last_name(of)
     if not trait or last_name(trait) == "Drop":
         return name
-    arguments = re.search(r"<(.*)>", trait, re.DOTALL)
+    # `std::io::Error` is another name of `IoError`, and rattle takes a type's own name.
+    arguments = re.search(r"<(.*)>", re.sub(r"\bio::Error\b", "IoError", trait), re.DOTALL)
     return name + last_name(trait) + "".join(re.findall(r"\b[A-Z]\w+", arguments[1] if arguments else ""))
 
 

@@ -7,7 +7,7 @@ standin/courses.py, so it shows that the stand-in works, before there is a worke
 
 Its options are those of `work` that tests/loops.py gives. `--wrong KIND` makes a mistake now and then, which the stand-in
 has to find (tests/stand_in.py): a state that the run is not in, commands without the first one, a query without an answer
-(`silent`), a beat by the token of another task (`beat`) or of none (`token`), and one that hears of a cancel and goes on (`taken`)."""
+(`silent`), a retry `policy` that no server takes, a beat by the token of another task (`beat`) or of none (`token`), and one that hears of a cancel and goes on (`taken`)."""
 
 import argparse
 import base64
@@ -20,7 +20,7 @@ TOP = Path(__file__).resolve().parent.parent
 sys.path[:0] = [str(TOP / "standin"), str(TOP / "tests")]
 sys.dont_write_bytecode = True
 
-from courses import Course, Fault, payloads_in  # noqa: E402
+from courses import Course, Fault, built_in, payloads_in  # noqa: E402
 from programs import PROGRAMS  # noqa: E402
 from table_runs import TableProgram  # noqa: E402
 
@@ -29,6 +29,8 @@ FAILED, ANSWERED = "QUERY_RESULT_TYPE_FAILED", "QUERY_RESULT_TYPE_ANSWERED"
 NON_DETERMINISTIC = "WORKFLOW_TASK_FAILED_CAUSE_NON_DETERMINISTIC_ERROR"
 UNHANDLED = "WORKFLOW_TASK_FAILED_CAUSE_WORKFLOW_WORKER_UNHANDLED_FAILURE"
 NOT_FOUND, INVALID, CANCELLED = 5, 3, 1
+# The codes of a poll that end the worker.
+REFUSALS = (INVALID, NOT_FOUND, 7, 16)
 
 
 class Unknown(Exception):
@@ -66,6 +68,7 @@ class Worker:
         self.options, self.last_id, self.waiting = options, 0, {}
         self.dice = random.Random(options.identity)
         self.cached, self.beating, self.is_stopped, self.counts = {}, set(), False, dict.fromkeys(NAMES, 0)
+        self.status = 0
         self.sticky = f"{options.identity}:{options.task_queue}" if options.cache else None
 
     def call(self, method, params, then):
@@ -127,6 +130,10 @@ class Worker:
                 return
             self.counts["polls"] += 1
             self.counts["empty"] += result == {}
+            if error and error["code"] in REFUSALS:
+                print(f"{error['message']} (code {error['code']})", file=sys.stderr)
+                self.is_stopped, self.status = True, 1
+                return
             if not result:
                 return again()
             getattr(self, kind.lower())(result, again)
@@ -239,7 +246,7 @@ class Worker:
         """What a query gives at a course."""
         kind = query["queryType"]
         if kind.startswith("__"):
-            return False, f"built-in query types are not supported: {kind}"
+            return built_in(kind)
         is_answered, given = course.program.query(kind, payloads_in(query, "queryArgs"))
         return is_answered, "elsewhere" if is_answered and self.is_wrong("state") else given
 
@@ -279,6 +286,10 @@ class Worker:
 
         self.call("RespondWorkflowTaskFailed", params, then)
 
+    def policy(self):
+        policy = {"maximumAttempts": self.options.activity_attempts}
+        return {"initialInterval": "60s", "maximumInterval": "10s"} if self.is_wrong("policy") else policy
+
     def written(self, command, events):
         """A command as JSON."""
         kind, words = command[0], command[1:]
@@ -286,8 +297,7 @@ class Worker:
         activity_queue = {"name": "till" if self.options.policies else self.options.task_queue}
         kinds = {
             "StartActivity": lambda: ("SCHEDULE_ACTIVITY_TASK", {
-                "activityId": words[0], "activityType": {"name": words[1]}, "input": listed(words[2]), "retryPolicy": {
-                    "maximumAttempts": self.options.activity_attempts},
+                "activityId": words[0], "activityType": {"name": words[1]}, "input": listed(words[2]), "retryPolicy": self.policy(),
                 "startToCloseTimeout": f"{self.options.activity_timeout}s", "taskQueue": activity_queue}),
             "CancelActivity": lambda: ("REQUEST_CANCEL_ACTIVITY_TASK", {"scheduledEventId": str(words[0])}),
             "StartTimer": lambda: ("START_TIMER", {"timerId": words[0], "startToFireTimeout": words[1]}),
@@ -374,12 +384,14 @@ def main():
         return 0
     parser = argparse.ArgumentParser(description=__doc__, formatter_class=argparse.RawDescriptionHelpFormatter)
     parser.add_argument("work", choices=["work"])
-    for name in ("task-queue", "namespace", "identity", "wrong", "policies"):
+    for name in ("task-queue", "namespace", "identity", "wrong", "policies", "metrics"):
         parser.add_argument("--" + name)
-    for name in ("workers", "activity-workers", "cache", "activity-timeout", "activity-attempts", "sticky-timeout"):
-        parser.add_argument("--" + name, type=int)
-    Worker(parser.parse_args()).run()
-    return 0
+    defaults = {"workers": 4, "activity-workers": 0, "cache": 10, "activity-timeout": 60, "activity-attempts": 1, "sticky-timeout": 10}
+    for name, default in defaults.items():
+        parser.add_argument("--" + name, type=int, default=default)
+    worker = Worker(parser.parse_args())
+    worker.run()
+    return worker.status
 
 
 if __name__ == "__main__":

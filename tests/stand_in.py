@@ -20,6 +20,7 @@ ROWS = [
     ("--tables --runs 60 --trouble none", "commands", "it gives"),
     ("--orders --runs 60 --trouble none", "commands", "it gives"),
     ("--tables --runs 60 --trouble none --queries", "silent", "is not answered"),
+    ("--tables --runs 100 --trouble none --till", "policy", "MaximumInterval cannot be less than InitialInterval"),
     ("--tables --runs 200 --trouble none --till", "token", "which it was not given"),
     ("--tables --runs 200 --trouble beaten --till", "beat", "it beats with"),
     ("--tables --runs 300 --trouble beaten --till", "taken", "PrintLabels b'activity"),

@@ -11,7 +11,7 @@ from functools import partial
 from pathlib import Path
 
 from statuses import (
-    command_lines, files, policies, progress, queries, reports, services, streams, tables, values, views,
+    command_lines, counts, files, policies, progress, queries, reports, services, streams, tables, values, views,
 )
 from statuses.rooms import Room, TOP
 from statuses.runs import compared
@@ -36,7 +36,7 @@ TABLES = [
     streams.streams,
 ]
 # These start the program themselves.
-MEASURES = [progress.terminals, services.cache_options, services.worker_options, services.short_memory]
+MEASURES = [counts.kept_counts, progress.terminals, services.cache_options, services.worker_options, services.short_memory]
 
 
 def main():
@@ -50,7 +50,7 @@ def main():
         parser.error(f"no such group: {unknown[0]}")
     program = options.program
     if not program.exists():
-        parser.error(f"{program} is not there: ./wfhost builds the program")
+        parser.error(f"{program} is not there: `./wfhost --build` builds it")
     tried = wrong = 0
     os.umask(0o022)
     with tempfile.TemporaryDirectory() as path:

@@ -251,7 +251,7 @@ def main():
         parser.error(f"no such talk: {unknown[0]}")
     program = options.program.split()
     if not shutil.which(program[0]):
-        parser.error(f"{program[0]} is not there: ./wfhost builds the program")
+        parser.error(f"{program[0]} is not there: `./wfhost --build` builds it")
     talks = [found[name] for name in options.talks] or list(found.values())
     wrong = 0
     for path in talks:

@@ -36,13 +36,37 @@ REFUSED = {
     "whole": (b"[activities.retry]\nbackoff_coefficient = 2\n", "bad value of activities.retry.backoff_coefficient at line 2"),
     "infinite": (b"[activities.retry]\nbackoff_coefficient = inf\n", "bad value of activities.retry.backoff_coefficient at line 2"),
     "types": (b"[activities.retry]\nnon_retryable = [\n  'A',\n  1,\n]\n", "bad value of activities.retry.non_retryable at line 5"),
+    "no_queue": (b"[activity.A]\ntask_queue = ''\n", "bad value of activity.A.task_queue at line 2"),
+    "no_queue_of_child": (b"[children]\ntask_queue = ''\n", "bad value of children.task_queue at line 2"),
+    "no_queue_of_run": (b"[continuation.A]\ntask_queue = ''\n", "bad value of continuation.A.task_queue at line 2"),
+    # Times above others: in one table, of the general one, of a default, and where the line before that is no fault yet.
+    "interval": (b"[activities.retry]\ninitial_interval = 60\nmaximum_interval = 10\n", "activities.retry.initial_interval above maximum_interval at line 3"),
+    "interval_of_child": (b"[child.A]\nretry = { initial_interval = 2, maximum_interval = 1 }\n\n", "child.A.retry.initial_interval above maximum_interval at line 2"),
+    "interval_of_run": (b"[continuations]\nretry = { maximum_interval = 1, initial_interval = 2 }", "continuations.retry.initial_interval above maximum_interval at line 2"),
+    "interval_of_all": (b"[children.retry]\nmaximum_interval = 9\n[child.A.retry]\ninitial_interval = 10\n", "child.A.retry.initial_interval above maximum_interval at line 4"),
+    "heartbeat": (b"[activities]\nheartbeat = 30\nstart_to_close = 29\n", "activities.heartbeat above start_to_close at line 3"),
+    "heartbeat_of_all": (b"[activities]\nheartbeat = 30\nschedule_to_close = 29\n", "activities.heartbeat above schedule_to_close at line 3"),
+    "heartbeat_of_type": (b"[activity.A]\nheartbeat = 6\n[activities]\nstart_to_close = 5\n", "activity.A.heartbeat above start_to_close at line 4"),
+    "heartbeat_of_default": (b"[activity.A]\nheartbeat = 4000000000\n", "activity.A.heartbeat above start_to_close at line 2"),
+    # A time that later lines correct is not told in place of another fault.
+    "corrected": (b"[activity.A]\nheartbeat = 4000000000\n[activity.B]\nbeat = 1\n[activities]\nstart_to_close = 4000000000\n", "unknown key activity.B.beat at line 4"),
+    "corrected_and_above": (b"[activity.A]\nheartbeat = 9\nstart_to_close = 9\n[activity.B]\nheartbeat = 9\nstart_to_close = 8\n", "activity.B.heartbeat above start_to_close at line 6"),
     # The first of two is told.
     "two": (b"[failures]\ntipe = 1\n[activities]\nheartbeat = 0\n", "unknown key failures.tipe at line 2"),
     "strange": (b'[activity."\\u001b"]\nx = 1\n', "unknown key activity.?.x at line 2"),
     "marked": (b"\xef\xbb\xbf[activities]\r\nheart = 1\r\n", "unknown key activities.heart at line 2"),
 }
 # Files that are taken.
-TAKEN = {"empty": b"", "blank": b"\n# nothing\n", "no_end": b"[activities]\nheartbeat = 5", "all": b"[activity]\n[child]\n"}
+TAKEN = {
+    "empty": b"",
+    "blank": b"\n# nothing\n",
+    "no_end": b"[activities]\nheartbeat = 5",
+    "all": b"[activity]\n[child]\n",
+    "equal": b"[activities]\nheartbeat = 5\nstart_to_close = 5\nschedule_to_close = 5\nretry = { initial_interval = 5, maximum_interval = 5 }\n",
+    "one_interval": b"[children.retry]\nmaximum_interval = 1\n[child.A.retry]\ninitial_interval = 1\n",
+    "corrected": b"[activity.A]\nheartbeat = 4000000000\n[activities]\nstart_to_close = 4000000000\n",
+    "factor": b"[activities.retry]\nbackoff_coefficient = 1.0\n",
+}
 
 
 def work(path):

@@ -53,7 +53,8 @@ RESTED = [
 ]
 PHASES = "unknown query type status; known: phase"
 NONE = "unknown query type phase; known: none"
-BUILT_IN = "built-in query types are not supported: __stack_trace"
+BUILT_IN = "built-in query types are not supported: __open_sessions"
+STACK_TRACE = "There is no stack trace: this worker runs a workflow as steps of a state, without coroutines."
 LAST = "command 2 of the task at 3 has no event"
 
 
@@ -168,7 +169,8 @@ def queries(room):
         (["query", f"{folder}/open.json", "phase"], 0, 'open.json: ok, 1 tasks\n"racing"\n', ""),
         (["query", race, "status"], 1, f"race.json: ok, 4 tasks\nquery failed, {PHASES}\n", ""),
         (["query", "--json", race, "status"], 1, f'{coded}{{"queryFailed":"{PHASES}"}}\n', ""),
-        (["query", race, "__stack_trace"], 1, f"race.json: ok, 4 tasks\nquery failed, {BUILT_IN}\n", ""),
+        (["query", race, "__open_sessions"], 1, f"race.json: ok, 4 tasks\nquery failed, {BUILT_IN}\n", ""),
+        (["query", race, "__stack_trace"], 0, f'race.json: ok, 4 tasks\n"{STACK_TRACE}"\n', ""),
         (["query", f"{folder}/nap.json", "phase"], 1, f"nap.json: ok, 2 tasks\nquery failed, {NONE}\n", ""),
         (
             ["query", short, "phase"],

@@ -3,6 +3,7 @@
 import os
 import re
 import resource
+import signal
 import subprocess
 
 LIMIT_SECONDS = 120
@@ -38,11 +39,12 @@ def run(
     closed=None,
     memory=0,
     data=0,
+    size=0,
     as_nobody=False,
 ):
     """Runs the program, or another one, called by a path, with this standard input, or that of a device, in a folder, with streams that take
     nothing, with one stream for all, with a stream that is closed, with a limit on its addresses, or on what it may write to,
-    so that there is no memory for the stack of a thread, or as nobody where wanted."""
+    so that there is no memory for the stack of a thread, with a limit on the size of a file, or as nobody where wanted."""
 
     def before():
         if memory:
@@ -50,6 +52,9 @@ def run(
         if data:
             resource.setrlimit(resource.RLIMIT_STACK, (THREAD_STACK, resource.getrlimit(resource.RLIMIT_STACK)[1]))
             resource.setrlimit(resource.RLIMIT_DATA, (data, data))
+        if size:
+            signal.signal(signal.SIGXFSZ, signal.SIG_IGN)
+            resource.setrlimit(resource.RLIMIT_FSIZE, (size, size))
         if closed is not None:
             os.close(closed)
 
@@ -66,7 +71,7 @@ def run(
             stdout=ends[bool(source)] if out else subprocess.PIPE,
             stderr=ends[-1] if error else subprocess.STDOUT if merged else subprocess.PIPE,
             timeout=LIMIT_SECONDS,
-            preexec_fn=before if memory or data or closed is not None else None,
+            preexec_fn=before if memory or data or size or closed is not None else None,
             **who,
         )
     finally:

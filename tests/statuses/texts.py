@@ -25,6 +25,7 @@ nap.json: ok, 2 tasks
 MISSING = "no such file or folder"
 FORBIDDEN = "permission denied"
 IS_FOLDER = "is a folder"
+IS_LINK = "is a link"
 NO_FOLDER = "is no folder"
 NO_FILE = "is no file"
 

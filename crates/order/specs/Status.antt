@@ -2,6 +2,7 @@
 use Rattle.std.specs.Prelude.{ℕ, List, ◌∷◌, [], codes, bytes_eq, if◌then◌else◌}
 use Rattle.serde_json.specs.Data.{string}
 use Rattle.wh_json_payloads.specs.Values.{payload_written}
+use Rattle.wh_queryable.specs.Definitions.{Definitions}
 use Rattle.wh_queryable.specs.Queries.{Queries, unknown_query}
 use Rattle.wh_queryable.specs.declared.queryable.QueryResult.TheVariants.{Answered}
 use Rattle.order.specs.declared.OrderState.{OrderState}
@@ -13,6 +14,10 @@ status (Charging parcel) = codes "charging"
 status (Held parcel) = codes "held"
 status (Shipping parcel) = codes "shipping"
 status Closed = codes "closed"
+
+-- an order declares the query `status` and the signal `cancel`
+abbrev pub order_definitions : Definitions
+order_definitions kind = record { queries = codes "status" ∷ []; signals = codes "cancel" ∷ [] }
 
 -- the answer to a query: only `status` is known
 abbrev pub order_queries : Queries OrderState

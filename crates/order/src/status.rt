@@ -6,7 +6,7 @@ use crate::{Order, OrderState};
 use std::alloc::Global;
 use wh_events::{OutOfMemory, Payload};
 use wh_json_payloads::{one_payload, text_payload};
-use wh_queryable::{QueryResult, Queryable, unknown_query};
+use wh_queryable::{QueryResult, Queryable, WorkflowDefinition, unknown_query};
 
 /// Returns the name of the order's state.
 fn status(state: &OrderState) -> &'static str
@@ -21,7 +21,7 @@ fn status(state: &OrderState) -> &'static str
 }
 
 impl Queryable for Order {
-    ghost use Rattle.order.specs.Status.{order_queries};
+    ghost use Rattle.order.specs.Status.{order_definitions, order_queries};
 
     ghost queries = { order_queries };
 
@@ -38,5 +38,13 @@ impl Queryable for Order {
             }
             _ => unknown_query(alloc, query_type, "status"),
         }
+    }
+
+    ghost definitions = { order_definitions };
+
+    fn definition(alloc: Global, _kind: &str) -> Result<WorkflowDefinition, OutOfMemory> {
+        WorkflowDefinition::nothing(alloc)
+            .with_query(alloc, "status")?
+            .with_signal(alloc, "cancel")
     }
 }

@@ -1,5 +1,5 @@
 -- The steps of a task that prints labels, and its answer.
-use Rattle.std.specs.Prelude.{◌≡◌, ◌<◌, ◌+◌, ℕ, zero, suc, Bool, true, false, List, [], ◌∷◌, ◌++◌, codes, decimal, length}
+use Rattle.std.specs.Prelude.{◌≡◌, ◌<◌, ◌+◌, ℕ, zero, suc, Bool, true, false, List, [], ◌∷◌, ◌++◌, codes, decimal, length, Some}
 use Rattle.order_host.specs.declared.labels.LabelStep.{LabelStep}
 use Rattle.order_host.specs.declared.labels.LabelStep.TheVariants.{Heard, Printed}
 use Rattle.order_host.specs.declared.labels.LabelsEnd.{LabelsEnd}
@@ -8,6 +8,7 @@ use Rattle.wh_activities.specs.WithHeartbeat.{Brings}
 use Rattle.wh_events.specs.declared.event.Payload.{Payload}
 use Rattle.wh_heartbeat.specs.declared.heartbeat.HeartbeatResponse.{HeartbeatResponse}
 use Rattle.wh_heartbeat.specs.declared.heartbeat.HeartbeatResponse.TheVariants.{CancelRequested, Gone, GoOn, Unheard}
+use Rattle.wh_tasks.specs.declared.failure.ActivityFailure.{ActivityFailure}
 use Rattle.wh_tasks.specs.declared.source.ActivityAnswer.{ActivityAnswer}
 use Rattle.wh_tasks.specs.declared.source.ActivityAnswer.TheVariants.{Completed, Failed}
 use Rattle.order_host.specs.Payloads.{json}
@@ -53,10 +54,14 @@ abbrev pub ArePrinted : Brings → ℕ → LabelsEnd → List LabelStep → Type
 ArePrinted brings labels Done steps = WentOn brings labels steps
 ArePrinted brings labels CalledOff steps = IsCalledOff brings labels steps
 
+-- the failure of labels that are needed no more, with a type for retry policies
+abbrev pub called_off : ActivityFailure
+called_off = record { message = codes "called off"; failure_type = Some (codes "CalledOff"); retryable = true }
+
 -- the result is the number of printed labels; if a heartbeat stopped printing, the activity fails
 abbrev pub labels_answer : ℕ → LabelsEnd → ActivityAnswer
 labels_answer labels Done = Completed (count_payload labels ∷ [])
-labels_answer labels CalledOff = Failed (codes "called off")
+labels_answer labels CalledOff = Failed called_off
 
 -- the answer to a task of this many labels, by the steps that were done for it
 pub record IsLabelsAnswer (brings : Brings) (labels : ℕ) (answer : ActivityAnswer) : Type 0 where

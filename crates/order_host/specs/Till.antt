@@ -2,16 +2,17 @@
 use Rattle.std.specs.Prelude.{◌≡◌, Bool, true, false, List, Option, Some, None, bytes_eq, codes, length}
 use Rattle.wh_activities.specs.WithHeartbeat.{Brings}
 use Rattle.wh_events.specs.declared.event.Payload.{Payload}
+use Rattle.wh_tasks.specs.Failures.{not_found}
 use Rattle.wh_tasks.specs.declared.source.ActivityTask.{ActivityTask}
 use Rattle.wh_tasks.specs.declared.source.ActivityAnswer.{ActivityAnswer}
 use Rattle.wh_tasks.specs.declared.source.ActivityAnswer.TheVariants.{Completed, Failed}
 use Rattle.order.specs.Charging.{receipt}
 use Rattle.order_host.specs.Labels.{IsLabelsAnswer}
 
--- the activity is completed with its result; without one there is no such activity
+-- the activity is completed with its result; without one there is no such activity, and it is not retried
 abbrev pub ending : Option (List Payload) → ActivityAnswer
 ending (Some result) = Completed result
-ending None = Failed (codes "no such activity")
+ending None = Failed (not_found (codes "no such activity"))
 
 -- the receipt of a charged card; there are no other activities that send no heartbeats
 abbrev pub till_answer : ActivityTask → ActivityAnswer

@@ -5,7 +5,8 @@ ghost use Rattle.order_host.specs.Inbox.{events_up_to, told};
 use std::alloc::Global;
 use wh_events::{Event, OutOfMemory, RunKey};
 use wh_poll::{
-    ActivityAnswer, ActivityTask, Polled, RunUse, Sent, SourceFault, TaskSource, WorkflowTask,
+    Acceptance, ActivityAnswer, ActivityTask, Polled, RunUse, Sent, SourceFault, TaskSource,
+    WorkflowTask,
 };
 use wh_replay::Answer;
 use wh_slots::TaskName;
@@ -169,6 +170,19 @@ impl TaskSource for Inbox {
         match self.answers.push((name, Sent::Workflow(copy))) {
             Ok(()) => Ok(()),
             Err(_) => Err(SourceFault::OutOfMemory),
+        }
+    }
+
+    fn answer_replayed(
+        &mut self,
+        name: TaskName,
+        answer: &Answer,
+        _events: &[Event],
+        _steps: u64,
+    ) -> Acceptance {
+        Acceptance {
+            sent: self.answer_workflow(name, answer),
+            run: RunUse::Cache,
         }
     }
 

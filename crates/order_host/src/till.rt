@@ -1,7 +1,7 @@
 //! The activities of orders.
 
 ghost use Rattle.std.specs.Prelude.{◌≡◌, IfOk, length};
-ghost use Rattle.order_host.specs.Labels.{IsLabelsAnswer};
+ghost use Rattle.order_host.specs.Labels.{IsLabelsAnswer, called_off};
 ghost use Rattle.order_host.specs.Till.{till_answer};
 
 use crate::labels::{LabelsEnd, count_payload, print_labels};
@@ -10,7 +10,7 @@ use std::alloc::Global;
 use wh_activities::HeartbeatHandler;
 use wh_events::{Items, OutOfMemory, Payload};
 use wh_heartbeat::Heartbeat;
-use wh_poll::{ActivityAnswer, ActivityTask};
+use wh_poll::{ActivityAnswer, ActivityFailure, ActivityTask};
 use wh_workflow::text_of;
 
 /// Charges cards, with their receipts as results, and prints labels of parcels, with their number
@@ -19,6 +19,19 @@ use wh_workflow::text_of;
 pub struct Till {
     /// The allocator for results and failure messages.
     pub alloc: Global,
+}
+
+/// Returns the failure of labels that are needed no more, with a type for retry policies.
+fn called_off(alloc: Global) -> Result<ActivityFailure, OutOfMemory>
+    ensures { IfOk result (λ failure. failure ≡ called_off) }
+{
+    let message = text_of(alloc, "called off")?;
+    let failure_type = text_of(alloc, "CalledOff")?;
+    Ok(ActivityFailure {
+        message,
+        failure_type: Some(failure_type),
+        retryable: true,
+    })
 }
 
 /// Prints a label for each payload, and sends a heartbeat after each.
@@ -37,7 +50,7 @@ fn run_labels<H: Heartbeat>(
             let result = Items::new(vec![in alloc; count]?);
             Ok(ActivityAnswer::Completed(result))
         }
-        LabelsEnd::CalledOff => Ok(ActivityAnswer::Failed(text_of(alloc, "called off")?)),
+        LabelsEnd::CalledOff => Ok(ActivityAnswer::Failed(called_off(alloc)?)),
     }
 }
 
@@ -47,7 +60,11 @@ fn run_charge(alloc: Global, task: &ActivityTask) -> Result<ActivityAnswer, OutO
 {
     match receipt(task.activity.get(), &task.input)? {
         Some(result) => Ok(ActivityAnswer::Completed(result)),
-        None => Ok(ActivityAnswer::Failed(text_of(alloc, "no such activity")?)),
+        None => {
+            let message = text_of(alloc, "no such activity")?;
+            let failure = ActivityFailure::not_found(alloc, message)?;
+            Ok(ActivityAnswer::Failed(failure))
+        }
     }
 }
 

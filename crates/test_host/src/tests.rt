@@ -2,6 +2,7 @@
 
 mod cache;
 mod fixtures;
+mod heartbeats;
 mod host;
 mod hosting;
 mod ledger;

@@ -8,15 +8,22 @@ use wh_tasks::{ActivityAnswer, ActivityHandler, ActivityTask};
 /// Runs activities, one handler for each worker, and can send heartbeats meanwhile. A heartbeat
 /// reports to the server that an activity goes on, and its response says whether the activity is to
 /// be canceled (Temporal documentation, "Activity Heartbeat"). Contracts see which answers an
-/// activity may give, and nothing else of what it does.
+/// activity may give, and that a handler which passes tasks on to another one runs each of them
+/// once.
 pub trait HeartbeatHandler {
+    ghost use Rattle.std.specs.Prelude.{Result};
     ghost use Rattle.wh_activities.specs.WithHeartbeat.{Brings};
+    ghost use Rattle.wh_events.specs.declared.memory.OutOfMemory.{OutOfMemory};
     ghost use Rattle.wh_tasks.specs.Source.{SameMay};
     ghost use Rattle.wh_tasks.specs.declared.source.ActivityTask.{ActivityTask};
     ghost use Rattle.wh_tasks.specs.declared.source.ActivityAnswer.{ActivityAnswer};
 
     /// Which answers a task may get, by the responses that heartbeats may get. No call changes it.
     ghost may: { Self → Brings → ActivityTask → ActivityAnswer → Type 0 };
+
+    /// How one run of a task may change the handler, by the responses that heartbeats may get and its
+    /// result. A handler that leaves it out says nothing of it.
+    ghost runs: { Self → Brings → ActivityTask → Result ActivityAnswer OutOfMemory → Self → Type 0 } = { λ old brings task result new. Unit {0} };
 
     /// Runs the task and returns its answer. If a response was that the activity is to be canceled,
     /// the source answers a failure as canceled. Returns `OutOfMemory` if there was no memory. The
@@ -26,11 +33,13 @@ pub trait HeartbeatHandler {
         task: &ActivityTask,
         heartbeat: &mut H,
     ) -> Result<ActivityAnswer, OutOfMemory>
+        ensures once { runs self.old H.brings task.now result self.new }
         ensures answer { IfOk result (λ answer. may self.old H.brings task.now answer) }
         ensures may { SameMay (may self.old H.brings) (may self.new H.brings) };
 }
 
-/// A handler with its heartbeat, as an `ActivityHandler` for a worker.
+/// A handler with its heartbeat, as an `ActivityHandler` for a worker: the handler runs once for
+/// each task, and its answer is the task's.
 #[derive(Drop)]
 pub struct WithHeartbeat<B, H> {
     /// Runs the activities.
@@ -41,6 +50,8 @@ pub struct WithHeartbeat<B, H> {
 
 impl<B: HeartbeatHandler, H: Heartbeat> ActivityHandler for WithHeartbeat<B, H> {
     ghost may = { λ with_heartbeat. B.may with_heartbeat.handler H.brings };
+
+    ghost runs = { λ old task result new. B.runs old.handler H.brings task result new.handler };
 
     fn run(&mut self, task: &ActivityTask) -> Result<ActivityAnswer, OutOfMemory> {
         self.handler.run(task, &mut self.heartbeat)

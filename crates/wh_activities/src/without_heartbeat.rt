@@ -5,7 +5,8 @@ use wh_events::OutOfMemory;
 use wh_heartbeat::Heartbeat;
 use wh_tasks::{ActivityAnswer, ActivityHandler, ActivityTask};
 
-/// A handler that sends no heartbeats, as a `HeartbeatHandler`.
+/// A handler that sends no heartbeats, as a `HeartbeatHandler`: it runs once for each task, and its
+/// answer is the task's.
 #[derive(Drop)]
 pub struct WithoutHeartbeat<A> {
     /// Runs the activities.
@@ -14,6 +15,8 @@ pub struct WithoutHeartbeat<A> {
 
 impl<A: ActivityHandler> HeartbeatHandler for WithoutHeartbeat<A> {
     ghost may = { λ silent brings. A.may silent.handler };
+
+    ghost runs = { λ old brings task result new. A.runs old.handler task result new.handler };
 
     fn run<H: Heartbeat>(
         &mut self,

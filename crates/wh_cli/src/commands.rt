@@ -15,9 +15,10 @@ use wh_console::Console;
 use wh_crew::LiveEnd;
 use wh_diagnostics::{Failure, print};
 use wh_events::OutOfMemory;
-use wh_file_commands::{explain_path, page_path, query_path, replay_paths, view_path};
+use wh_file_commands::{explain_path, page_path, query_path, view_path};
 use wh_promise_findings::Promises;
 use wh_queryable::Queryable;
+use wh_replay_command::replay_paths;
 use wh_service_command::serve_folder;
 use wh_table_commands::{check_paths, picture_path, try_path};
 use wh_work::{LivePlan, LiveReport, PlanFault, live_plan, live_status};
@@ -32,6 +33,7 @@ fn failure_of(fault: PlanFault) -> Failure
             file: bad.path,
             fault: bad.fault,
         },
+        PlanFault::BadMetrics { text } => Failure::BadLine { text },
         PlanFault::OutOfMemory => Failure::OutOfMemory,
     }
 }
@@ -49,7 +51,7 @@ where
     requires serves { MayServe (F.pre live) }
     ensures worked { IfOk result (HasWorked (lives (F.post live)) options console.old console.new) }
     ensures stopped { IfErr result (λ _. console.new ≡ console.old) }
-    ensures why { IfErr result IsWorkFailure }
+    ensures why { IfErr result (IsWorkFailure options) }
 {
     let plan = match live_plan(rt, options) {
         Ok(plan) => plan,

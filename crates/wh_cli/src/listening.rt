@@ -1,9 +1,9 @@
 //! What the bridge of live tasks writes.
 
-use crate::program::{UNCALLED, called, words};
 use std::alloc::Global;
 use std::env::Env;
 use std::sync::Wait;
+use wh_program::{UNCALLED, called, words};
 use wh_rpc::Caller;
 
 /// Reads the standard input, until it ends, and gives each response to the call that waits for it.

@@ -1,124 +1,26 @@
 //! The program: it does what its command line asks for, and ends with a status.
 
-ghost use Rattle.std.specs.Prelude.{◌≡◌, ◌⊎◌, ◌≤◌, IfErr, IfOk, map, string_bytes};
+ghost use Rattle.std.specs.Prelude.{◌≡◌, ◌≤◌, map, string_bytes};
 ghost use Rattle.std.specs.Process.{exit_status};
-ghost use Rattle.wh_command_line.specs.Options.{IsWithinLimits};
-ghost use Rattle.wh_command_line.specs.Plans.{IsAskedBy};
-ghost use Rattle.wh_cli.specs.Private.Commands.{Answers, AskForNothing, HasFailed, IsRefusedLine};
-ghost use Rattle.wh_cli.specs.Private.Commands.{called, is_closed_pipe, name_of};
+ghost use Rattle.wh_cli.specs.Private.Commands.{Answers, AskForNothing};
 ghost use Rattle.wh_work.specs.Plans.{MayServe, lives};
 ghost use Rattle.wh_host.specs.Machine.{IsConfig};
 
 use crate::commands::obey;
-use std::alloc::Global;
-use std::env::Env;
-use std::io::{BufWriter, ErrorKind, Print, Printer, Write};
-use std::path::Path;
+use std::io::Write;
 use std::process::ExitCode;
 use std::rt::Runtime;
 use std::sync::Wait;
 use std::thread::Threads;
-use std::{env, io};
 use wh_activities::{HeartbeatHandler, WithoutHeartbeat};
-use wh_command_line::{Plan, Refusal, parse};
 use wh_console::{Console, ErrorPrinter};
 use wh_crew::LiveEnd;
-use wh_diagnostics::{Diagnostic, Failure};
 use wh_events::OutOfMemory;
 use wh_poll::ActivityHandler;
+use wh_program::{UNCALLED, called, fail, fail_under, output, plan, words};
 use wh_queryable::Queryable;
 use wh_rpc::Caller;
 use wh_work::{FileReplacer, LivePlan, serve_calls};
-
-/// The status of a run that ends without a full report.
-const FAILED: u8 = 2;
-
-/// What the program is called if the command line has no word.
-pub(crate) const UNCALLED: &str = "wfhost";
-
-/// The words of the command line, the program's name first.
-pub(crate) fn words<R: Env + AllocGlobal>(rt: &R) -> Result<Vec<String>, Failure>
-    ensures { IfErr result (λ failure. (failure ≡ Failure.BadArguments) ⊎ (failure ≡ Failure.OutOfMemory)) }
-{
-    match env::args(rt) {
-        Ok(words) => match words.collect(rt.alloc()) {
-            Ok(words) => Ok(words),
-            Err(_) => Err(Failure::OutOfMemory),
-        },
-        Err(error) => match error.kind() {
-            ErrorKind::OutOfMemory => Err(Failure::OutOfMemory),
-            _ => Err(Failure::BadArguments),
-        },
-    }
-}
-
-/// What a program at a path is called: the last part of the path, or `wfhost` if there is none.
-fn name_of(path: &str) -> &str
-    ensures { result.now ≡ name_of path.now }
-{
-    match Path::new(path).file_name() {
-        Some(name) => name,
-        None => UNCALLED,
-    }
-}
-
-/// What the program is called: the last part of its first word, or `wfhost` if there is none.
-pub(crate) fn called(words: &[String]) -> &str
-    ensures { result.now ≡ called (map string_bytes words.now) }
-{
-    match words.first() {
-        Some(word) => name_of(word.as_str()),
-        None => UNCALLED,
-    }
-}
-
-/// What the words of the command line ask for.
-fn plan(alloc: Global, types: &str, words: &[String]) -> Result<Plan, Failure>
-    ensures limits { IfOk result IsWithinLimits }
-    ensures asked { IfOk result (IsAskedBy (map string_bytes words.now)) }
-    ensures refused { IfErr result (IsRefusedLine (map string_bytes words.now)) }
-{
-    match parse(alloc, called(words), types, words) {
-        Ok(plan) => Ok(plan),
-        Err(Refusal::BadLine { text }) => Err(Failure::BadLine { text }),
-        Err(Refusal::FewSlots) => Err(Failure::FewSlots),
-        Err(Refusal::OutOfMemory) => Err(Failure::OutOfMemory),
-    }
-}
-
-/// The standard output, for a report.
-fn output<R: Print + AllocGlobal>(rt: &R) -> Result<BufWriter<Printer<'_, R>>, Failure>
-    ensures { IfErr result (λ failure. failure ≡ Failure.OutOfMemory) }
-{
-    match BufWriter::new(rt.alloc(), io::writer(rt)) {
-        Ok(writer) => Ok(writer),
-        Err(_) => Err(Failure::OutOfMemory),
-    }
-}
-
-/// Whether the failure is that of a closed pipe: the standard output can't be written, since its
-/// reader closed it.
-fn is_closed_pipe(failure: &Failure, closed: bool) -> bool
-    ensures { result ≡ is_closed_pipe failure.now closed }
-{
-    match failure {
-        Failure::Output => closed,
-        _ => false,
-    }
-}
-
-/// Reports why there is no full report, unless the failure is that of a closed pipe, and returns
-/// the status.
-fn fail<O: Write, E: Write>(failure: Failure, console: &mut Console<'_, O, E>) -> u8
-    ensures { HasFailed failure console.old console.new result }
-{
-    if is_closed_pipe(&failure, console.is_closed()) {
-        drop(failure);
-    } else {
-        console.report(Diagnostic::Failed { failure });
-    }
-    FAILED
-}
 
 /// Does what the words of the command line ask for, or reports why there is no full report, and
 /// returns the status.
@@ -146,14 +48,6 @@ where
     }
 }
 
-/// Reports why there is nothing to do, under a name of the program, and returns the status.
-fn fail_under<R: Eprint>(rt: &R, name: &str, failure: Failure) -> u8
-    ensures { result ≡ 2 }
-{
-    let mut console = Console::new(name, io::sink(), ErrorPrinter::new(rt));
-    fail(failure, &mut console)
-}
-
 /// Does what the words of the command line ask for, with the standard streams, and returns the
 /// status.
 fn run_words<
@@ -177,13 +71,6 @@ where
         }
         Err(failure) => fail_under(rt, name, failure),
     }
-}
-
-/// Reports that there is no memory to begin with, and returns the status.
-pub fn no_memory<R: Eprint>(rt: &R) -> ExitCode
-    ensures { exit_status result ≡ 2 }
-{
-    ExitCode::from(fail_under(rt, UNCALLED, Failure::OutOfMemory))
 }
 
 /// Runs the program under its arguments, and returns the status.

@@ -1,9 +1,15 @@
 -- The codes, status by status.
-use Rattle.std.proofs.Common.{◌≡◌, inl, inr, refl}
-use Rattle.std.specs.Prelude.{ℤ, pos}
+use Rattle.std.proofs.Common.{◌≡◌, inl, inr, refl, subst, sym}
+use Rattle.std.specs.Prelude.{ℕ, ℤ, pos, true, false, Result, Ok, Err}
+use Rattle.wh_client.specs.Refusals.{HasItsStatus, IsFaultOf, unanswered}
+use Rattle.wh_client.specs.declared.asking.AskFault.{AskFault}
+use Rattle.wh_rpc.specs.declared.call_fault.CallFault.{CallFault}
+use Rattle.wh_rpc.specs.declared.call_fault.CallFault.TheVariants as call
+use Rattle.wh_rpc.specs.declared.response.Outcome.{Outcome}
+use Rattle.wh_rpc.specs.declared.response.Outcome.TheVariants.{Given, Refused}
 use Rattle.wh_client.specs.declared.codes.Receipt.TheVariants as receipt
 use Rattle.wh_client.specs.declared.codes.Status.TheVariants as status
-use Rattle.wh_client.specs.Codes.{AnswersByCode, KeepsOut, NoRunByCode, PollsByCode, RunsByReceipt}
+use Rattle.wh_client.specs.Codes.{AcceptedAnswers, AnswersByCode, KeepsOut, NoRunByCode, PollsByCode, RunsByReceipt}
 
 pub no_run_by_code : NoRunByCode
 no_run_by_code status.Cancelled = refl
@@ -52,8 +58,13 @@ answers_by_code status.Unauthenticated code is =
 answers_by_code status.Other code is =
     (λ e. cc, λ gone. elim gone [ inl five ↦ absurd (is.2 five) | inr three ↦ absurd (is.1 three) ])
 
+pub accepted_answers : AcceptedAnswers
+accepted_answers true = (refl, (λ e. cc, λ e. cc))
+accepted_answers false = (refl, (λ _. refl, λ _. refl))
+
 pub runs_by_receipt : RunsByReceipt
 runs_by_receipt receipt.Acknowledged = ((λ _. refl, λ _. refl), λ _. refl)
+runs_by_receipt receipt.Discarded = ((λ e. cc, λ e. cc), λ e. cc)
 runs_by_receipt receipt.NotFound = ((λ e. cc, λ e. cc), λ e. cc)
 runs_by_receipt receipt.Invalid = ((λ e. cc, λ e. cc), λ e. cc)
 runs_by_receipt receipt.Withheld = ((λ e. cc, λ e. cc), λ e. cc)
@@ -61,3 +72,14 @@ runs_by_receipt receipt.Replaced = ((λ e. cc, λ e. cc), λ e. cc)
 runs_by_receipt receipt.Cut = ((λ e. cc, λ e. cc), λ e. cc)
 runs_by_receipt receipt.Lost = ((λ e. cc, λ e. cc), λ e. cc)
 runs_by_receipt receipt.NoMemory = ((λ e. cc, λ e. cc), λ e. cc)
+
+unanswered_status : (why : CallFault) → HasItsStatus (unanswered why)
+unanswered_status call.Closed = tt
+unanswered_status call.Output = tt
+unanswered_status call.OutOfMemory = tt
+
+-- the fault of a refused call has the status of its code
+pub has_its_status : (response : Result (ℕ × Outcome) CallFault) (fault : AskFault) → IsFaultOf response fault → HasItsStatus fault
+has_its_status (Ok (id, Given value)) fault is = absurd is
+has_its_status (Ok (id, Refused code message)) fault is = subst HasItsStatus (sym is.2) is.1
+has_its_status (Err why) fault is = subst HasItsStatus (sym is) (unanswered_status why)

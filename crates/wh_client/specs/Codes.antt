@@ -27,6 +27,11 @@ poll_end status.PermissionDenied = poll.Never
 poll_end status.Unauthenticated = poll.Never
 poll_end status.Other = poll.Later
 
+-- what became of an accepted answer, by whether the server discarded the task
+abbrev pub accepted_answer : Bool → Receipt
+accepted_answer true = receipt.Discarded
+accepted_answer false = receipt.Acknowledged
+
 -- what became of a refused answer: its task is over, or the server has failed the task; otherwise it is lost
 abbrev pub refused_answer : Status → Receipt
 refused_answer status.Cancelled = receipt.Lost
@@ -39,6 +44,7 @@ refused_answer status.Other = receipt.Lost
 -- the server has the answer, or needs none for the task, or the answer is withheld on purpose
 abbrev pub is_taken : Receipt → Bool
 is_taken receipt.Acknowledged = true
+is_taken receipt.Discarded = true
 is_taken receipt.NotFound = true
 is_taken receipt.Invalid = true
 is_taken receipt.Withheld = true
@@ -47,9 +53,10 @@ is_taken receipt.Cut = false
 is_taken receipt.Lost = false
 is_taken receipt.NoMemory = false
 
--- the server has the answer
+-- the server has the answer, and the events of the task stand in the history
 abbrev pub keeps_run : Receipt → Bool
 keeps_run receipt.Acknowledged = true
+keeps_run receipt.Discarded = false
 keeps_run receipt.NotFound = false
 keeps_run receipt.Invalid = false
 keeps_run receipt.Withheld = false
@@ -80,6 +87,11 @@ PollsByCode = (of : Status) (code : ℤ) → HasCode of code
 abbrev pub AnswersByCode : Type 0
 AnswersByCode = (of : Status) (code : ℤ) → HasCode of code
     → (is_taken (refused_answer of) ≡ true) ↔ ((code ≡ pos 5) ⊎ (code ≡ pos 3))
+
+-- an accepted answer counts as taken, and the run of its task is cached exactly if the server did not discard the task
+abbrev pub AcceptedAnswers : Type 0
+AcceptedAnswers = (is_discarded : Bool) → (is_taken (accepted_answer is_discarded) ≡ true)
+    × ((keeps_run (accepted_answer is_discarded) ≡ true) ↔ (is_discarded ≡ false))
 
 -- the run of a task is cached exactly if its answer was acknowledged, and each such answer counts as taken
 abbrev pub RunsByReceipt : Type 0

@@ -1,5 +1,5 @@
 -- Heartbeats of activities, and the responses to them.
-use Rattle.std.specs.Prelude.{◌≡◌, ℕ, List, Bool, true, false, Some, codes}
+use Rattle.std.specs.Prelude.{◌≡◌, ℕ, List, Bool, true, false, Option, Some, codes}
 use Rattle.serde_json.specs.Data.{Data}
 use Rattle.wh_events.specs.declared.event.Payload.{Payload}
 use Rattle.wh_client.specs.Calls.{Gives}
@@ -27,9 +27,10 @@ pub record WasCanceled (gives : Gives) (token : List ℕ) : Type 0 where
   pub given : gives (codes "RecordActivityTaskHeartbeat") params result
   pub requested : is_cancel_requested result ≡ true
 
--- the answer for a failed activity: as canceled if that was heard in a heartbeat, otherwise as failed
-abbrev pub IsFailedActivity : WorkerNames → List ℕ → List ℕ → Bool → Request → Type 0
-IsFailedActivity names token reason true request =
+-- the answer for a failed activity: as canceled if that was heard in a heartbeat, otherwise as failed, with the type of
+-- the failure, if it has one, and whether it may be retried
+abbrev pub IsFailedActivity : WorkerNames → List ℕ → List ℕ → Option (List ℕ) → Bool → Bool → Request → Type 0
+IsFailedActivity names token reason failure_type retryable true request =
     IsRequest request (codes "RespondActivityTaskCanceled") (activity_canceled names token reason)
-IsFailedActivity names token reason false request =
-    IsRequest request (codes "RespondActivityTaskFailed") (activity_failed names token reason)
+IsFailedActivity names token reason failure_type retryable false request =
+    IsRequest request (codes "RespondActivityTaskFailed") (activity_failed names token reason failure_type retryable)

@@ -1,5 +1,5 @@
 -- The histories that a server returns, page by page.
-use Rattle.std.specs.Prelude.{◌≡◌, ◌⊎◌, ℕ, List, [], Some, None, Ok}
+use Rattle.std.specs.Prelude.{◌≡◌, ◌⊎◌, ℕ, List, [], Some, None, Ok, Err, ⊤}
 use Rattle.serde_json.specs.Data.{Data}
 use Rattle.wh_events.specs.declared.event.Event.{Event}
 use Rattle.wh_events.specs.declared.key.RunKey.{RunKey}
@@ -8,12 +8,24 @@ use Rattle.wh_json.specs.Outcome.{all_of}
 use Rattle.wh_commands.specs.declared.names.WorkerNames.{WorkerNames}
 use Rattle.wh_client.specs.Calls.{Gives}
 use Rattle.wh_client.specs.Pages.{BeginsWith, ReadsOn}
+use Rattle.wh_client.specs.declared.asking.AskFault.{AskFault}
+use Rattle.wh_client.specs.declared.asking.AskFault.TheVariants as asked
 use Rattle.wh_commands.specs.CarryingOver.{Carried, carried_in}
 use Rattle.wh_responses.specs.Responses.{Page}
 
 -- the members of a history are read as these events
 abbrev pub ReadsEvents : List Data → List Event → Type 0
 ReadsEvents members events = all_of (members_from 1 None members) ≡ Ok events
+
+-- why the members of a history can't be read: the first fault of a member, or there was no memory
+abbrev pub CanNotBeRead : List Data → AskFault → Type 0
+CanNotBeRead members asked.Closed = ⊥
+CanNotBeRead members asked.Output = ⊥
+CanNotBeRead members (asked.Refused status code message) = ⊥
+CanNotBeRead members asked.Unreadable = ⊥
+CanNotBeRead members asked.TooManyPages = ⊥
+CanNotBeRead members (asked.History fault) = all_of (members_from 1 None members) ≡ Err fault
+CanNotBeRead members asked.OutOfMemory = ⊤
 
 -- all members are those given and those of the pages from the token on, if there is a token
 abbrev pub HasAllMembers : Gives → WorkerNames → RunKey → List ℕ → List Data → List Data → Type 0

@@ -1,9 +1,46 @@
--- What refused calls mean.
-use Rattle.std.specs.Prelude.{◌≡◌, string_bytes, ⊤}
+-- What calls that failed mean.
+use Rattle.std.specs.Prelude.{◌≡◌, ℕ, Result, Ok, Err, string_bytes, ⊤}
+use Rattle.wh_client.specs.Codes.{HasCode}
 use Rattle.wh_client.specs.declared.asking.AskFault.{AskFault}
 use Rattle.wh_client.specs.declared.asking.AskFault.TheVariants as asked
+use Rattle.wh_client.specs.declared.codes.Status.{Status}
 use Rattle.wh_client.specs.declared.codes.Status.TheVariants.{Other}
 use Rattle.wh_responses.specs.Refusals as server
+use Rattle.wh_rpc.specs.declared.call_fault.CallFault.{CallFault}
+use Rattle.wh_rpc.specs.declared.call_fault.CallFault.TheVariants as call
+use Rattle.wh_rpc.specs.declared.response.Outcome.{Outcome}
+use Rattle.wh_rpc.specs.declared.response.Outcome.TheVariants.{Given, Refused}
+
+-- ---- The fault of a call
+
+-- the fault of a call that got no response
+abbrev pub unanswered : CallFault → AskFault
+unanswered call.Closed = asked.Closed
+unanswered call.Output = asked.Output
+unanswered call.OutOfMemory = asked.OutOfMemory
+
+-- the fault of a refused call: its code and its message, with the status of the code
+abbrev pub IsRefusal : Outcome → AskFault → Type 0
+IsRefusal (Given value) fault = ⊥
+IsRefusal (Refused code message) fault =
+    (status : Status) × HasCode status code × (fault ≡ asked.Refused status code message)
+
+-- the fault of a call, by its response
+abbrev pub IsFaultOf : Result (ℕ × Outcome) CallFault → AskFault → Type 0
+IsFaultOf (Ok responded) fault = IsRefusal responded.1 fault
+IsFaultOf (Err why) fault = fault ≡ unanswered why
+
+-- if the call was refused, its status is the one of its code
+abbrev pub HasItsStatus : AskFault → Type 0
+HasItsStatus asked.Closed = ⊤
+HasItsStatus asked.Output = ⊤
+HasItsStatus (asked.Refused status code message) = HasCode status code
+HasItsStatus asked.Unreadable = ⊤
+HasItsStatus asked.TooManyPages = ⊤
+HasItsStatus (asked.History fault) = ⊤
+HasItsStatus asked.OutOfMemory = ⊤
+
+-- ---- What it means
 
 -- the call was refused because its request is larger than the server accepts
 abbrev pub IsTooLarge : AskFault → Type 0

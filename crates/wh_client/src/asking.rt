@@ -1,9 +1,9 @@
 //! Makes calls and returns their results.
 
-ghost use Rattle.std.specs.Prelude.{◌≡◌, ◌↔◌, true, IfOk, Ok};
+ghost use Rattle.std.specs.Prelude.{◌≡◌, ◌↔◌, true, IfErr, IfOk, Ok};
 ghost use Rattle.serde_json.specs.View.{view};
 ghost use Rattle.wh_rpc.specs.declared.response.Outcome.TheVariants.{Given};
-ghost use Rattle.wh_client.specs.Refusals.{IsTooLarge};
+ghost use Rattle.wh_client.specs.Refusals.{HasItsStatus, IsFaultOf, IsTooLarge, unanswered};
 ghost use Rattle.wh_client.specs.declared.asking.AskFault.TheVariants.{OutOfMemory as NoMemory};
 
 use crate::codes::{Status, status_of};
@@ -75,7 +75,9 @@ impl AskFault {
 }
 
 /// Returns the fault of a call that got no response.
-fn unanswered(why: CallFault) -> AskFault {
+fn unanswered(why: CallFault) -> AskFault
+    ensures { result ≡ unanswered why }
+{
     match why {
         CallFault::Closed => AskFault::Closed,
         CallFault::Output => AskFault::Output,
@@ -83,9 +85,11 @@ fn unanswered(why: CallFault) -> AskFault {
     }
 }
 
-/// Returns the id and the result of a call, or the fault for its error.
+/// Returns the id and the result of a call, or its fault: the code and the message of a refusal,
+/// with the status of the code, or why there was no response.
 fn result_of(response: Result<(u64, Outcome), CallFault>) -> Result<(u64, Value), AskFault>
-    ensures { IfOk result (λ given. response ≡ Ok (given.0, Given given.1)) }
+    ensures given { IfOk result (λ given. response ≡ Ok (given.0, Given given.1)) }
+    ensures refused { IfErr result (IsFaultOf response) }
 {
     match response {
         Ok((id, Outcome::Given(value))) => Ok((id, value)),
@@ -98,24 +102,28 @@ fn result_of(response: Result<(u64, Outcome), CallFault>) -> Result<(u64, Value)
     }
 }
 
-/// Makes a call and returns its id and result.
+/// Makes a call and returns its id and result. A refusal has the status of its code.
+#[tactic(auto, using(crate::proofs::Statuses::has_its_status))]
 pub(crate) fn ask<L: Connection>(
     connection: &L,
     method: &str,
     params: Value,
 ) -> Result<(u64, Value), AskFault>
-    ensures { IfOk result (λ given. L.gives method.now (view params) (view given.1)) }
+    ensures given { IfOk result (λ given. L.gives method.now (view params) (view given.1)) }
+    ensures refused { IfErr result HasItsStatus }
 {
     result_of(connection.call(method, params))
 }
 
-/// Makes a poll and returns its id and result.
+/// Makes a poll and returns its id and result. A refusal has the status of its code.
+#[tactic(auto, using(crate::proofs::Statuses::has_its_status))]
 pub(crate) fn ask_poll<L: Connection>(
     connection: &L,
     method: &str,
     params: Value,
 ) -> Result<(u64, Value), AskFault>
-    ensures { IfOk result (λ given. L.gives method.now (view params) (view given.1)) }
+    ensures given { IfOk result (λ given. L.gives method.now (view params) (view given.1)) }
+    ensures refused { IfErr result HasItsStatus }
 {
     result_of(connection.poll(method, params))
 }

@@ -3,10 +3,10 @@
 ghost use Rattle.std.specs.Prelude.{◌≡◌, IfErr, IfOk, Some, map};
 ghost use Rattle.serde_json.specs.View.{view};
 ghost use Rattle.wh_responses.specs.Responses.{poll_seen};
-ghost use Rattle.wh_client.specs.Histories.{HandsOn, HasAllMembers, IsWhole, ReadsEvents};
+ghost use Rattle.wh_client.specs.Histories.{CanNotBeRead, HandsOn, HasAllMembers, IsWhole, ReadsEvents};
 ghost use Rattle.wh_commands.specs.CarryingOver.{carried_in, carried_seen};
 ghost use Rattle.wh_client.specs.Polls.{IsActivityPoll, IsWorkflowPoll};
-ghost use Rattle.wh_client.specs.Refusals.{HasNoMeaning};
+ghost use Rattle.wh_client.specs.Refusals.{HasItsStatus, HasNoMeaning};
 
 use crate::asking::{AskFault, ask_poll};
 use crate::codes::Status;
@@ -63,7 +63,8 @@ fn carried_in_page(page: &HistoryPage) -> Result<CarriedOver, AskFault>
 /// Reads the events of a history. `History` says why they are malformed, `OutOfMemory` that there
 /// was no memory for them.
 pub fn read_history(alloc: Global, members: &[Value]) -> Result<Vec<Event>, AskFault>
-    ensures { IfOk result (λ events. ReadsEvents (map view members.now) events.items) }
+    ensures read { IfOk result (λ events. ReadsEvents (map view members.now) events.items) }
+    ensures unread { IfErr result (CanNotBeRead (map view members.now)) }
 {
     match read_members(alloc, members) {
         Ok(events) => Ok(events),
@@ -79,10 +80,12 @@ impl<L: Connection> Client<'_, L> {
     }
 
     /// Polls the sticky queue, or the one that all workers poll, for workflow tasks, and returns
-    /// the id of the poll and what the response means. The error says why there is no result.
+    /// the id of the poll and what the response means. The error says why there is no result: a
+    /// refusal has the status of its code.
     pub fn ask_workflow(&self, sticky: bool) -> Result<(u64, WorkflowPoll), AskFault>
-        ensures { IfOk result (λ polled.
+        ensures polled { IfOk result (λ polled.
             IsWorkflowPoll L.gives self.now.options.now.names sticky (poll_seen polled.1)) }
+        ensures refused { IfErr result HasItsStatus }
     {
         let params = poll_workflow(self.allocator(), &self.options.names, sticky)?;
         let (id, value) = ask_poll(self.connection, "PollWorkflowTaskQueue", params)?;
@@ -91,10 +94,11 @@ impl<L: Connection> Client<'_, L> {
     }
 
     /// Polls for activity tasks, and returns the id of the poll and what the response means. The
-    /// error says why there is no result.
+    /// error says why there is no result: a refusal has the status of its code.
     pub fn ask_activity(&self) -> Result<(u64, ActivityPoll), AskFault>
-        ensures { IfOk result (λ polled.
+        ensures polled { IfOk result (λ polled.
             IsActivityPoll L.gives self.now.options.now.names polled.1) }
+        ensures refused { IfErr result HasItsStatus }
     {
         let params = poll_activity(self.allocator(), &self.options.names)?;
         let (id, value) = ask_poll(self.connection, "PollActivityTaskQueue", params)?;

@@ -1,7 +1,7 @@
 //! What the status codes of refused calls mean for a poll and for an answer.
 
 ghost use Rattle.std.specs.Prelude.{◌≡◌, ◌≢◌};
-ghost use Rattle.wh_client.specs.Codes.{HasCode, poll_end, refused_answer, is_taken, keeps_run};
+ghost use Rattle.wh_client.specs.Codes.{HasCode, poll_end, accepted_answer, refused_answer, is_taken, keeps_run};
 
 /// The status of a refused call, among those that a worker distinguishes (gRPC, "Status codes").
 #[derive(Clone, Copy, PartialEq, Eq, Debug)]
@@ -65,6 +65,9 @@ pub fn poll_end(status: Status) -> PollEnd
 pub enum Receipt {
     /// The server accepted it.
     Acknowledged,
+    /// The server accepted it and discarded the task, whose events are in no history, as it may
+    /// happen to a task that an update made.
+    Discarded,
     /// The task is over: it timed out, or its answer had been accepted and only the response was
     /// lost.
     NotFound,
@@ -82,6 +85,17 @@ pub enum Receipt {
     Lost,
     /// There was no memory.
     NoMemory,
+}
+
+/// Returns what became of an answer that was accepted, by whether the server discarded the task.
+pub fn accepted_answer(is_discarded: bool) -> Receipt
+    ensures { result ≡ accepted_answer is_discarded }
+{
+    if is_discarded {
+        Receipt::Discarded
+    } else {
+        Receipt::Acknowledged
+    }
 }
 
 /// Returns what became of an answer that was refused with a status.
@@ -105,15 +119,18 @@ impl Receipt {
         ensures { result ≡ is_taken self }
     {
         match self {
-            Receipt::Acknowledged | Receipt::NotFound | Receipt::Invalid | Receipt::Withheld =>
-                true,
+            Receipt::Acknowledged
+            | Receipt::Discarded
+            | Receipt::NotFound
+            | Receipt::Invalid
+            | Receipt::Withheld => true,
             Receipt::Replaced | Receipt::Cut | Receipt::Lost | Receipt::NoMemory => false,
         }
     }
 
     /// Returns whether the run of the task may be cached. Attempts of a task that was not completed
-    /// can end with the same event number and other times, so the run of such an attempt may differ
-    /// from the history that follows.
+    /// or was discarded can end with the same event number and other times, so the run of such an
+    /// attempt may differ from the history that follows.
     pub fn keeps_run(self) -> bool
         ensures { result ≡ keeps_run self }
     {

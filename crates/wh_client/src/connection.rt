@@ -33,9 +33,13 @@ pub trait Connection {
     fn call(&self, method: &str, params: Value) -> Result<(u64, Outcome), CallFault>
         ensures { IfOk result (λ response. OnGiven (gives method.now (view params)) response.1) };
 
-    /// As `call`, but also `Closed` once the bridge shuts down.
+    /// As `call`, but also `Closed` once the bridge shuts down, or polls are stopped.
     fn poll(&self, method: &str, params: Value) -> Result<(u64, Outcome), CallFault>
         ensures { IfOk result (λ response. OnGiven (gives method.now (view params)) response.1) };
+
+    /// Lets each later poll of the process fail with `Closed`. Polls that are open get their
+    /// responses.
+    fn stop_polls(&self);
 
     /// Passes a query that a poll returned to what answers queries beside the workers. Returns the
     /// query if nothing does.

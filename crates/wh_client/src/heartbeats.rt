@@ -1,7 +1,8 @@
 //! Sends heartbeats of activities, and writes answers for activities that failed or were canceled.
 
-ghost use Rattle.std.specs.Prelude.{◌≡◌, true, IfOk};
+ghost use Rattle.std.specs.Prelude.{◌≡◌, true, IfErr, IfOk};
 ghost use Rattle.wh_client.specs.Heartbeats.{IsFailedActivity, IsHeartbeat, WasCanceled};
+ghost use Rattle.wh_client.specs.Refusals.{HasItsStatus};
 
 use crate::asking::{AskFault, ask};
 use crate::client::Client;
@@ -14,14 +15,16 @@ use wh_responses::is_cancel_requested;
 
 /// Sends a heartbeat with details for the activity of a task, and returns whether the activity is
 /// to be canceled (Temporal documentation, "Activity Heartbeat"). The error says why that is not
-/// known: `Refused` with `NotFound` means that the server no longer has such a task.
+/// known: a refusal has the status of its code, and `NotFound` means that the server no longer has
+/// such a task.
 pub fn record_heartbeat<L: Connection>(
     connection: &L,
     names: &WorkerNames,
     token: &Text,
     details: &[Payload],
 ) -> Result<bool, AskFault>
-    ensures { IfOk result (IsHeartbeat L.gives names.now token.now details.now) }
+    ensures heard { IfOk result (IsHeartbeat L.gives names.now token.now details.now) }
+    ensures refused { IfErr result HasItsStatus }
 {
     let alloc = connection.allocator();
     let params = activity_heartbeat(alloc, names, token.get(), details)?;
@@ -50,14 +53,18 @@ impl<L: Connection> Client<'_, L> {
     }
 
     /// Writes the answer to an activity task whose activity failed, with the reason: as canceled if
-    /// `was_canceled`, otherwise as failed. `OutOfMemory` if there was no memory for the request.
+    /// `was_canceled`, otherwise as failed, with the failure's type, if it has one, and whether the
+    /// activity may be retried. `OutOfMemory` if there was no memory for the request.
     pub fn activity_failed(
         &self,
         token: &Text,
         reason: &str,
+        failure_type: &Option<Text>,
+        retryable: bool,
         was_canceled: bool,
     ) -> Result<Request, OutOfMemory>
-        ensures { IfOk result (IsFailedActivity self.now.options.now.names token.now reason.now was_canceled) }
+        ensures { IfOk result (IsFailedActivity self.now.options.now.names
+            token.now reason.now failure_type.now retryable was_canceled) }
     {
         let (alloc, names) = (self.allocator(), &self.options.names);
         if was_canceled {
@@ -68,7 +75,7 @@ impl<L: Connection> Client<'_, L> {
         }
         Ok(Request {
             method: "RespondActivityTaskFailed",
-            params: activity_failed(alloc, names, token.get(), reason)?,
+            params: activity_failed(alloc, names, token.get(), reason, failure_type, retryable)?,
         })
     }
 }

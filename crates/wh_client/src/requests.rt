@@ -1,10 +1,11 @@
 //! Writes and sends the requests that answer tasks.
 
-ghost use Rattle.std.specs.Prelude.{IfOk, OnOk, [], codes};
+ghost use Rattle.std.specs.Prelude.{IfErr, IfOk, OnOk, [], codes};
 ghost use Rattle.wh_commands.specs.CarryingOver.{carried_seen};
-ghost use Rattle.wh_requests.specs.Requests.{activity_completed};
+ghost use Rattle.wh_client.specs.Refusals.{HasItsStatus};
+ghost use Rattle.wh_requests.specs.Requests.{activity_completed, no_queries, query_failed};
 ghost use Rattle.wh_requests.specs.Requests.{workflow_completed, workflow_failed};
-ghost use Rattle.wh_client.specs.Requests.{IsAcknowledged, IsRequest, WritesRequest};
+ghost use Rattle.wh_client.specs.Requests.{GivesUpQueue, IsAnswered, IsRequest, IsTaken, WritesRequest};
 
 use crate::asking::{AskFault, ask};
 use crate::client::Client;
@@ -16,6 +17,7 @@ use wh_requests::{
     FailedCause, NO_QUERIES, activity_completed, query_failed, shutdown, workflow_completed,
     workflow_failed,
 };
+use wh_responses::is_discarded;
 use wh_workflow::Command;
 
 /// A call to be made.
@@ -96,34 +98,50 @@ impl<L: Connection> Client<'_, L> {
         })
     }
 
-    /// Sends a request and waits until the server acknowledges it. The error says why it did not,
-    /// as far as that is known.
-    pub fn send(&self, request: Request) -> Result<(), AskFault>
-        ensures { OnOk result (IsAcknowledged L.gives request) }
+    /// Sends a request and waits until the server accepts it. Returns whether the server says that
+    /// it has discarded the task. The error says why it did not accept the request, as far as that
+    /// is known: a refusal has the status of its code.
+    pub fn send(&self, request: Request) -> Result<bool, AskFault>
+        ensures answered { IfOk result (IsAnswered L.gives request) }
+        ensures refused { IfErr result HasItsStatus }
     {
         let Request { method, params } = request;
         match ask(self.connection, method, params) {
-            Ok(_) => Ok(()),
+            Ok((_id, value)) => Ok(is_discarded(&value)),
             Err(fault) => Err(fault),
         }
     }
 
-    /// Answers the query of a token with the message that it is not answered. Errors are ignored: a
-    /// query without an answer times out.
-    pub fn refuse_query(&self, token: &Text) {
+    /// Answers the query of a token with the message that this worker answers none. The error says
+    /// why the server did not take that: the query then times out.
+    pub fn refuse_query(&self, token: &Text) -> Result<(), AskFault>
+        ensures sent { OnOk result (IsTaken L.gives (codes "RespondQueryTaskCompleted")
+            (query_failed self.now.options.now.names token.now no_queries)) }
+        ensures refused { IfErr result HasItsStatus }
+    {
         let names = &self.options.names;
-        if let Ok(params) = query_failed(self.allocator(), names, token.get(), NO_QUERIES) {
-            let _ = ask(self.connection, "RespondQueryTaskCompleted", params);
+        let params = query_failed(self.allocator(), names, token.get(), NO_QUERIES)?;
+        match ask(self.connection, "RespondQueryTaskCompleted", params) {
+            Ok(_taken) => Ok(()),
+            Err(fault) => Err(fault),
         }
     }
 
     /// Gives up the sticky queue, if there is one, so that tasks don't wait there for a process
-    /// that has ended. Errors are ignored.
-    pub fn give_up_queue(&self) {
-        if self.options.sticky.is_some() {
-            if let Ok(params) = shutdown(self.allocator(), &self.options.names) {
-                let _ = ask(self.connection, "ShutdownWorker", params);
-            }
+    /// that has ended. The error says why the server did not take that: tasks then wait there until
+    /// their time in it is over.
+    pub fn give_up_queue(&self) -> Result<(), AskFault>
+        ensures given_up { OnOk result
+            (GivesUpQueue L.gives self.now.options.now.names self.now.options.now.sticky) }
+        ensures refused { IfErr result HasItsStatus }
+    {
+        let Some(_timeout) = self.options.sticky else {
+            return Ok(());
+        };
+        let params = shutdown(self.allocator(), &self.options.names)?;
+        match ask(self.connection, "ShutdownWorker", params) {
+            Ok(_taken) => Ok(()),
+            Err(fault) => Err(fault),
         }
     }
 }

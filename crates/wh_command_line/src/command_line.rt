@@ -10,10 +10,13 @@ ghost use Rattle.wh_command_line.specs.Lines.{program, replay, serve, needed, fo
 ghost use Rattle.wh_command_line.specs.Lines.{StandsFor, with_version};
 ghost use Rattle.wh_command_line.specs.Options.{as_needed, flag, option, option_or, with_default};
 ghost use Rattle.wh_command_line.specs.Options.{with_sizes, with_value_name};
-ghost use Rattle.wh_command_line.specs.Options.{IsWithinLimits, IsWithinWorkLimits, LacksSlots};
+ghost use Rattle.wh_command_line.specs.Options.{GivesFewSlots, IsWithinLimits, IsWithinWorkLimits};
+ghost use Rattle.wh_command_line.specs.Options.{LacksSlots};
 ghost use Rattle.wh_command_line.specs.Plans.{AsksFewSlots, HasFewSlots, IsAskedBy, IsGiven, IsHelp};
 ghost use Rattle.wh_command_line.specs.Plans.{IsBadGiven, IsBadLine, IsMistake, IsRequest};
+ghost use Rattle.wh_command_line.specs.Plans.{LacksService};
 ghost use Rattle.wh_command_line.specs.Refusals.{IfBad};
+ghost use Rattle.wh_command_line.specs.Work.{GivesFewWorkSlots, LacksWork};
 
 use crate::explain::{explain, explanation_given};
 use crate::options::{CACHE, CACHE_EVENTS, Helps, NumberOption, SLOTS, WORKERS};
@@ -564,6 +567,47 @@ fn no_command(alloc: Global, name: &str) -> Refusal
     ))
 }
 
+/// Returns the plan of the subcommand `replay`.
+fn replay_given(alloc: Global, given: &ArgMatches<'_>) -> Result<Plan, Refusal>
+    ensures limits { IfOk result IsWithinLimits }
+    ensures given { IfOk result (IsGiven (codes "replay") (rows_of (found_of given.now))) }
+    ensures slots { result ≢ Err Refusal.FewSlots }
+    ensures bad { IfErr result (IfBad (LacksText (codes "DIR") (rows_of (found_of given.now)))) }
+{
+    let (dir, more) = paths_given(alloc, given)?;
+    Ok(Plan::Replay {
+        dir,
+        more,
+        format: format_given(given),
+        require_files: flag_given(given, "require-files"),
+        strict_values: flag_given(given, "strict-values"),
+        progress: flag_given(given, "progress"),
+    })
+}
+
+/// Returns the plan of the subcommand `serve`.
+fn service_given(alloc: Global, given: &ArgMatches<'_>) -> Result<Plan, Refusal>
+    ensures limits { IfOk result IsWithinLimits }
+    ensures given { IfOk result (IsGiven (codes "serve") (rows_of (found_of given.now))) }
+    ensures few { result ≡ Err Refusal.FewSlots → GivesFewSlots (rows_of (found_of given.now)) }
+    ensures bad { IfErr result (IfBad (LacksService (rows_of (found_of given.now)))) }
+{
+    let dir = text_given(alloc, given, "DIR")?;
+    let options = ServeOptions::given(alloc, given)?;
+    let require_files = flag_given(given, "require-files");
+    serve_plan(dir, options, require_files, flag_given(given, "progress"))
+}
+
+/// Returns the plan of the subcommand `work`.
+fn work_given(alloc: Global, given: &ArgMatches<'_>) -> Result<Plan, Refusal>
+    ensures limits { IfOk result IsWithinLimits }
+    ensures given { IfOk result (IsGiven (codes "work") (rows_of (found_of given.now))) }
+    ensures few { result ≡ Err Refusal.FewSlots → GivesFewWorkSlots (rows_of (found_of given.now)) }
+    ensures bad { IfErr result (IfBad (LacksWork (rows_of (found_of given.now)))) }
+{
+    work_plan(WorkOptions::given(alloc, given)?)
+}
+
 /// Returns the plan of a subcommand.
 fn asked(alloc: Global, name: &str, given: &ArgMatches<'_>) -> Result<Plan, Refusal>
     ensures limits { IfOk result IsWithinLimits }
@@ -572,28 +616,13 @@ fn asked(alloc: Global, name: &str, given: &ArgMatches<'_>) -> Result<Plan, Refu
     ensures bad { IfErr result (IfBad (IsBadGiven name.now (rows_of (found_of given.now)))) }
 {
     match name {
-        "replay" => {
-            let (dir, more) = paths_given(alloc, given)?;
-            Ok(Plan::Replay {
-                dir,
-                more,
-                format: format_given(given),
-                require_files: flag_given(given, "require-files"),
-                strict_values: flag_given(given, "strict-values"),
-                progress: flag_given(given, "progress"),
-            })
-        }
+        "replay" => replay_given(alloc, given),
         "explain" => explanation_given(alloc, given),
         "query" => query_given(alloc, given),
         "check" => check_given(alloc, given),
         "try" => trial_given(alloc, given),
-        "serve" => {
-            let dir = text_given(alloc, given, "DIR")?;
-            let options = ServeOptions::given(alloc, given)?;
-            let require_files = flag_given(given, "require-files");
-            serve_plan(dir, options, require_files, flag_given(given, "progress"))
-        }
-        "work" => work_plan(WorkOptions::given(alloc, given)?),
+        "serve" => service_given(alloc, given),
+        "work" => work_given(alloc, given),
         _ => Err(bad_line(format!(in alloc; "error: {name} is no command\n"))),
     }
 }

@@ -1,5 +1,5 @@
 -- How commands are written.
-use Rattle.std.specs.Prelude.{ℕ, ℤ, List, [], ◌∷◌, ◌++◌, codes, decimal, nat_lt, true, Option, Some, None, Result, Ok, Err, if◌then◌else◌}
+use Rattle.std.specs.Prelude.{ℕ, ℤ, Bool, List, [], ◌∷◌, ◌++◌, codes, decimal, nat_lt, true, Option, Some, None, Result, Ok, Err, if◌then◌else◌}
 use Rattle.serde_json.specs.Data.{Data, Members, no_members, boolean, number, object, string}
 use Rattle.serde_json.specs.Find.{of_integer}
 use Rattle.wh_events.specs.declared.event.Event.{Event}
@@ -22,7 +22,7 @@ use Rattle.wh_commands.specs.Durations.{delay_text, duration_text, longest_durat
 use Rattle.wh_commands.specs.Objects.{object_of, put_all, put_given}
 use Rattle.wh_commands.specs.Outcome.{on_written}
 use Rattle.wh_commands.specs.Payloads.{payloads_written, json_payloads}
-use Rattle.wh_commands.specs.Policies.{activity_asked, child_asked, continued_asked, failure_info, queue_asked, retry_written}
+use Rattle.wh_commands.specs.Policies.{activity_asked, child_asked, continued_asked, failure_info, info_of, queue_asked, retry_written}
 
 -- ---- Parts
 
@@ -43,6 +43,10 @@ failure_with info message = object_of (
 -- a failure
 abbrev pub failure : List ℕ → Data
 failure message = failure_with (object_of []) message
+
+-- a failure of a type, if it has one, with the mark if it is not retried
+abbrev pub typed_failure : List ℕ → Option (List ℕ) → Bool → Data
+typed_failure message failure_type retryable = failure_with (info_of failure_type retryable) message
 
 -- a command of a type, with its attributes under their name
 abbrev pub command_form : List ℕ → List ℕ → Data → Data

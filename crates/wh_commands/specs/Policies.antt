@@ -92,3 +92,7 @@ failure_asked policy =
 
 abbrev pub failure_info : FailurePolicy → Data
 failure_info policy = object (put_given (failure_asked policy) no_members)
+
+-- the info of a failure of a type, if it has one, with the mark if it is not retried
+abbrev pub info_of : Option (List ℕ) → Bool → Data
+info_of failure_type retryable = failure_info (record { failure_type = failure_type; retryable = retryable })

@@ -338,7 +338,7 @@ fn fail(alloc: Global, policy: &FailurePolicy, message: &Text) -> Result<Value, 
     ensures { Writes result (Ok (spec.fail policy.now message.now)) }
 {
     let mut attributes = Map::new(alloc);
-    let info = failure_info(alloc, policy)?;
+    let info = failure_info(alloc, &policy.failure_type, policy.retryable)?;
     let failure = failure_with(alloc, info, message.get())?;
     put(&mut attributes, alloc, "failure", failure)?;
     command_form(

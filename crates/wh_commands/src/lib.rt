@@ -20,3 +20,4 @@ pub use fault::RequestFault;
 pub use names::WorkerNames;
 pub use object::{Members, put_duration, put_failure, put_payloads, put_text};
 pub use payload::json_payloads;
+pub use policies::put_typed_failure;

@@ -1,16 +1,17 @@
 //! Writes the options of a command.
 
 ghost use Rattle.std.specs.Prelude.{◌≡◌, IfOk, OnOk, codes, map, option_map};
-ghost use Rattle.serde_json.specs.Data.{string};
+ghost use Rattle.serde_json.specs.Data.{string, put};
 ghost use Rattle.serde_json.specs.View.{view, members_view};
 ghost use Rattle.wh_commands.specs.Objects.{put_given, with_member};
 ghost use Rattle.wh_commands.specs.Policies as spec;
-ghost use Rattle.wh_commands.specs.Policies.{activity_asked, child_asked, continued_asked, failure_info};
+ghost use Rattle.wh_commands.specs.Commands.{typed_failure};
+ghost use Rattle.wh_commands.specs.Policies.{activity_asked, child_asked, continued_asked, info_of};
 ghost use Rattle.wh_commands.specs.Policies.{float_written, queue_asked, retry_written, seconds_written};
 ghost use Rattle.wh_commands.specs.Policies.{texts_given};
 
 use crate::names::WorkerNames;
-use crate::object::{Members, put_copy, put_duration, put_text};
+use crate::object::{Members, failure_with, put_copy, put_duration, put_text};
 use serde_json::{Map, Value, put};
 use std::alloc::{AllocError, Global};
 use wh_events::Text;
@@ -280,16 +281,37 @@ fn non_retryable(retryable: bool) -> Option<Value>
 }
 
 /// Writes the `applicationFailureInfo` of a failure.
-pub(crate) fn failure_info(alloc: Global, policy: &FailurePolicy) -> Result<Value, AllocError>
-    ensures { IfOk result (λ value. view value ≡ failure_info policy.now) }
+pub(crate) fn failure_info(
+    alloc: Global,
+    failure_type: &Option<Text>,
+    retryable: bool,
+) -> Result<Value, AllocError>
+    ensures { IfOk result (λ value. view value ≡ info_of failure_type.now retryable) }
 {
     let mut members = Map::new(alloc);
-    put_type(&mut members, alloc, &policy.failure_type)?;
+    put_type(&mut members, alloc, failure_type)?;
     put_copy(
         &mut members,
         alloc,
         "nonRetryable",
-        &non_retryable(policy.retryable),
+        &non_retryable(retryable),
     )?;
     Ok(Value::Object(members))
+}
+
+/// Adds a failure under the name `failure`: with its type, if it has one, and the mark
+/// `nonRetryable` if it is not retried.
+pub fn put_typed_failure(
+    members: &mut Members,
+    alloc: Global,
+    message: &str,
+    failure_type: &Option<Text>,
+    retryable: bool,
+) -> Result<(), AllocError>
+    ensures { OnOk result (members_view members.new.entries ≡ put (codes "failure")
+        (typed_failure message.now failure_type.now retryable) (members_view members.old.entries)) }
+{
+    let info = failure_info(alloc, failure_type, retryable)?;
+    let failure = failure_with(alloc, info, message)?;
+    put(members, alloc, "failure", failure)
 }

@@ -49,6 +49,10 @@ impl<R: Wait + Clock + Eprint, C: Caller> Connection for BridgeConnection<'_, R,
         self.calls.poll(self.rt, method, params)
     }
 
+    fn stop_polls(&self) {
+        self.calls.shut_down(self.rt);
+    }
+
     fn hand_on(&self, query: QueryPoll) -> Result<(), QueryPoll> {
         self.queries.hand_on(self.rt, query)
     }

@@ -136,7 +136,7 @@ pub fn serve_live<
         &client,
         &connection.queries,
     )?;
-    client.give_up_queue();
+    let _ = client.give_up_queue();
     Ok(LiveEnd {
         totals: end.totals,
         tally: gathered(end.workers.as_slice()),

@@ -7,7 +7,7 @@ use Rattle.wh_files.specs.declared.Reason.{Reason}
 use Rattle.wh_json.specs.declared.fault.ReadFault.{ReadFault}
 use Rattle.wh_tester.specs.Report.{fault_text, shown}
 use Rattle.wh_explain.specs.declared.explanation.Pairing.{Pairing}
-use Rattle.wh_explain_report.specs.Texts.{sides_text}
+use Rattle.wh_phrases.specs.Sides.{sides_text}
 use Rattle.wh_report.specs.Reports.{fault_of}
 use Rattle.wh_report.specs.declared.records.Record.{Record}
 use Rattle.wh_diagnostics.specs.declared.diagnostics.Diagnostic.{Diagnostic}

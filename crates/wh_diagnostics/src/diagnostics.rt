@@ -16,14 +16,15 @@ use std::io;
 use std::io::Write;
 use wh_console::Message;
 use wh_events::Text;
-use wh_explain_report::SidesText;
 use wh_file_faults::FileFault;
 use wh_files::Reason;
 use wh_json::ReadFault;
+use wh_phrases::SidesText;
 use wh_policy_file::PolicyFault;
 use wh_report::Record;
-use wh_tester::{FaultText, Line, Shown};
+use wh_tester::{FaultText, Shown};
 use wh_values::{OtherValue, OtherValueText};
+use wh_verdict::Line;
 
 /// What a command may report on the standard error.
 #[derive(Drop)]

@@ -32,6 +32,10 @@ impl fmt::Display for PolicyFaultText<'_> {
                 let key = Shown(key.get());
                 write!(f, "bad value of {key} at line {line}")
             }
+            PolicyFault::Above { key, limit, line } => {
+                let (key, limit) = (Shown(key.get()), limit.get());
+                write!(f, "{key} above {limit} at line {line}")
+            }
             PolicyFault::OutOfMemory => write!(f, "out of memory"),
         }
     }

@@ -19,8 +19,8 @@ use Rattle.wh_replay.specs.declared.fault.Fault.TheVariants.{Workflow as Workflo
 use Rattle.wh_replay.specs.Checks.{checked, ends_live}
 use Rattle.wh_replay.specs.Replays.{replay_after, replay_known, replay_placed, replay_tasks, start, with_machines, workflow_of}
 use Rattle.wh_replay.specs.Tracking.{in_place}
-use Rattle.wh_tester.specs.declared.line.Verdict.TheVariants.{Good, Unreadable, Faulty, OutOfMemory}
-use Rattle.wh_tester.specs.Verdicts.{IsVerdict, judged, read_and_judged, verdict_on}
+use Rattle.wh_verdict.specs.declared.line.Verdict.TheVariants.{Good, Unreadable, Faulty, OutOfMemory}
+use Rattle.wh_verdict.specs.Verdicts.{IsVerdict, judged, read_and_judged, verdict_on}
 use Rattle.wh_explain.specs.declared.explanation.Detail.{Detail}
 use Rattle.wh_explain.specs.declared.explanation.ExplainedTask.{ExplainedTask}
 use Rattle.wh_explain.specs.declared.explanation.Detail.TheVariants.{Steps}

@@ -3,3 +3,4 @@ pub mod Explaining
 pub mod Stepping
 pub mod Tasks
 pub mod Findings
+pub mod Numbers

@@ -2,7 +2,7 @@
 
 use std::marker::Model;
 use wh_events::{EventKind, EventNo, Items, OutOfMemory, Text};
-use wh_tester::Line;
+use wh_verdict::Line;
 use wh_workflow::{Command, Job};
 
 /// How much of a replay is kept.
@@ -113,33 +113,62 @@ impl RecordedEvent {
 }
 
 impl Pairing {
-    ghost use Rattle.std.specs.Prelude.{◌≡◌, IfOk};
+    ghost use Rattle.std.specs.Prelude.{◌≡◌, if◌then◌else◌, IfOk};
+    ghost use Rattle.wh_explain.specs.declared.explanation.Pairing.TheVariants.{Alike, Different, CommandMissing, CommandExtra};
+
+    /// Pairs a command with the event in its place, which matches the command or not.
+    pub(crate) fn of(alike: bool, command: Command, event: RecordedEvent) -> Pairing
+        ensures { result ≡ if alike then Alike command event else Different command event }
+    {
+        if alike {
+            Pairing::Alike { command, event }
+        } else {
+            Pairing::Different { command, event }
+        }
+    }
+
+    /// Pairs a copy of a command with no event.
+    pub(crate) fn extra(command: &Command) -> Result<Pairing, OutOfMemory>
+        ensures { IfOk result (λ pairing. pairing ≡ CommandExtra command.now) }
+    {
+        Ok(Pairing::CommandExtra {
+            command: command.try_copy()?,
+        })
+    }
+
+    /// Pairs no command with a copy of an event.
+    fn missing(event: &RecordedEvent) -> Result<Pairing, OutOfMemory>
+        ensures { IfOk result (λ pairing. pairing ≡ CommandMissing event.now) }
+    {
+        Ok(Pairing::CommandMissing {
+            event: event.try_copy()?,
+        })
+    }
+
+    /// Pairs copies of a command and of the event in its place, which matches the command or not.
+    fn both(alike: bool, command: &Command, event: &RecordedEvent) -> Result<Pairing, OutOfMemory>
+        ensures { IfOk result (λ pairing.
+            pairing ≡ if alike then Alike command.now event.now else Different command.now event.now) }
+    {
+        let event = event.try_copy()?;
+        match command.try_copy() {
+            Ok(command) => Ok(Pairing::of(alike, command, event)),
+            Err(full) => {
+                drop(event);
+                Err(full)
+            }
+        }
+    }
 
     /// Returns an equal pairing, or `OutOfMemory` if there was no memory for the copy.
     pub fn try_copy(&self) -> Result<Pairing, OutOfMemory>
         ensures { IfOk result (λ copy. copy ≡ self.now) }
     {
         match self {
-            Pairing::Alike { command, event } => {
-                let event = event.try_copy()?;
-                Ok(Pairing::Alike {
-                    command: command.try_copy()?,
-                    event,
-                })
-            }
-            Pairing::Different { command, event } => {
-                let event = event.try_copy()?;
-                Ok(Pairing::Different {
-                    command: command.try_copy()?,
-                    event,
-                })
-            }
-            Pairing::CommandMissing { event } => Ok(Pairing::CommandMissing {
-                event: event.try_copy()?,
-            }),
-            Pairing::CommandExtra { command } => Ok(Pairing::CommandExtra {
-                command: command.try_copy()?,
-            }),
+            Pairing::Alike { command, event } => Pairing::both(true, command, event),
+            Pairing::Different { command, event } => Pairing::both(false, command, event),
+            Pairing::CommandMissing { event } => Pairing::missing(event),
+            Pairing::CommandExtra { command } => Pairing::extra(command),
         }
     }
 }

@@ -6,7 +6,7 @@ ghost use Rattle.wh_json.specs.declared.fault.ReadFault.TheVariants.{OutOfMemory
 ghost use Rattle.wh_replay.specs.declared.fault.Fault.TheVariants.{Mismatch as Mismatched, Workflow as WorkflowFaulty};
 ghost use Rattle.wh_workflow.specs.declared.fault.Mismatch.{Mismatch};
 ghost use Rattle.wh_workflow.specs.declared.fault.WorkflowFault.TheVariants.{UnknownWorkflow};
-ghost use Rattle.wh_tester.specs.Verdicts.{IsVerdict};
+ghost use Rattle.wh_verdict.specs.Verdicts.{IsVerdict};
 ghost use Rattle.wh_explain.specs.Differences.{IsDifferenceIn};
 ghost use Rattle.wh_explain.specs.Explaining.{AreTasksIn, unknown_in, unknown_placed};
 ghost use Rattle.wh_explain.specs.Reading.{AreExplained, IsReadOf};
@@ -20,7 +20,7 @@ use wh_events::{Event, Items, OutOfMemory, Text};
 use wh_json::{ReadFault, read_events};
 use wh_machines::Track;
 use wh_replay::{Checked, Fault, RunFault, start, track_of, workflow_of};
-use wh_tester::{Line, Verdict};
+use wh_verdict::{Line, Verdict};
 use wh_workflow::{Workflow, WorkflowFault};
 
 /// What the replay of a history file finds.
@@ -161,7 +161,7 @@ fn unread(alloc: Global, fault: ReadFault) -> Result<Findings, OutOfMemory>
 
 /// Returns the findings of a file by the result of reading it. There are no tasks if it can't be
 /// read.
-#[tactic(auto, unfolding(wh_tester::specs::Verdicts::verdict_on), using(wh_tester::proofs::Reading::read_within))]
+#[tactic(auto, unfolding(wh_verdict::specs::Verdicts::verdict_on), using(wh_verdict::proofs::Reading::read_within))]
 fn find_in_read<W: Workflow>(
     alloc: Global,
     detail: Detail,
@@ -194,7 +194,7 @@ fn find_in_bytes<W: Workflow>(
 }
 
 /// Replays a history file with the code of `W`, and returns what it finds: the verdict of
-/// `wh_tester::verdict`, the workflow type if it is not registered, and the command and the event
+/// `wh_verdict::verdict`, the workflow type if it is not registered, and the command and the event
 /// that differ, if they do. These are the last pairing of the last task that `explain` returns. The
 /// file is parsed once, and its history is replayed at most once.
 ///
@@ -245,6 +245,30 @@ pub fn unknown_type<W: Workflow>(alloc: Global, track: &Track) -> Result<Option<
     Ok(Some(Text::new(String::from_str(alloc, kind)?)))
 }
 
+/// Returns the explanation of a file of this name, of which this was found.
+fn explained(name: String, found: Findings) -> Explanation
+    ensures tasks { result.tasks ≡ found.tasks.items }
+    ensures unknown { result.unknown ≡ found.finding.unknown }
+    ensures name { result.line.name ≡ string_bytes name }
+    ensures verdict { result.line.verdict ≡ found.finding.verdict }
+{
+    let Findings { finding, tasks } = found;
+    let Finding {
+        verdict,
+        unknown,
+        difference,
+    } = finding;
+    drop(difference);
+    Explanation {
+        unknown,
+        tasks: Items::new(tasks),
+        line: Line {
+            name: Text::new(name),
+            verdict,
+        },
+    }
+}
+
 /// Explains the replay of a history file, given by name and bytes, with the code of `W`. Returns
 /// its tasks in their order, up to the first that has a fault, each with the jobs that the workflow
 /// was given, the commands that it gave, and the recorded events beside those that are sent. There
@@ -252,7 +276,7 @@ pub fn unknown_type<W: Workflow>(alloc: Global, track: &Track) -> Result<Option<
 /// not registered. The explanation then has that type. The file is parsed once, and its history is
 /// replayed at most once.
 ///
-/// The line is that of the report of replay: the name and the verdict of `wh_tester::verdict`.
+/// The line is that of the report of replay: the name and the verdict of `wh_verdict::verdict`.
 /// Returns `OutOfMemory` if an allocation was refused, but never for a file that is too long.
 pub fn explain<W: Workflow>(
     alloc: Global,
@@ -265,18 +289,11 @@ pub fn explain<W: Workflow>(
     ensures verdict { IfOk result (λ explained. IsVerdict W.program bytes.now explained.line.verdict) }
     ensures memory { IfErr result (λ _. length bytes.now ≤ longest) }
 {
-    let Findings { finding, tasks } = find_in_bytes::<W>(alloc, Detail::Steps, bytes)?;
-    let Finding {
-        verdict,
-        unknown,
-        ..
-    } = finding;
-    Ok(Explanation {
-        unknown,
-        tasks: Items::new(tasks),
-        line: Line {
-            name: Text::new(name),
-            verdict,
-        },
-    })
+    match find_in_bytes::<W>(alloc, Detail::Steps, bytes) {
+        Ok(found) => Ok(explained(name, found)),
+        Err(full) => {
+            drop(name);
+            Err(full)
+        }
+    }
 }

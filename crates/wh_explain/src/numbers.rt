@@ -2,7 +2,8 @@
 
 ghost use Rattle.std.specs.Prelude.{◌≡◌, ◌++◌, ◌∷◌, [], ℕ, map, if◌then◌else◌, IfOk, OnOk};
 ghost use Rattle.wh_workflow.specs.Jobs.{start_job, signal_job, outside_job};
-ghost use Rattle.wh_explain.specs.Numbers.{numbers_of, numbers_at};
+ghost use Rattle.wh_explain.specs.Numbers.{numbers_by, numbers_of, numbers_at};
+ghost use Rattle.wh_explain.specs.Private.Numbers.{job_in};
 ghost use Rattle.wh_explain.specs.Numbers.{is_answer, number_of, left_after};
 ghost use Rattle.wh_replay.specs.Activating.{IsWithin};
 ghost use Rattle.wh_explain.specs.Private.Stepping.{Keeps};
@@ -12,6 +13,17 @@ use std::alloc::Global;
 use wh_events::{Event, EventKind, EventNo, OutOfMemory};
 use wh_replay::Cut;
 use wh_workflow::Job;
+
+/// A part of the jobs of a cut after its time. They have this order.
+#[derive(Clone, Copy)]
+pub(crate) enum JobPart {
+    /// The start of the run.
+    Start,
+    /// Its signals.
+    Signals,
+    /// All others.
+    Others,
+}
 
 /// Whether an event of the kind gives the job that starts the run.
 fn is_start(kind: &EventKind) -> bool
@@ -64,22 +76,53 @@ fn push_if(numbers: &mut Vec<EventNo>, gives: bool, number: EventNo) -> Result<(
     Ok(())
 }
 
+/// Whether an event of the kind gives a job of the part.
+fn gives(part: JobPart, kind: &EventKind) -> bool
+    ensures { (n : ℕ) → map (λ _. n) (job_in part kind.now) ≡ (if result then n ∷ [] else []) }
+{
+    match part {
+        JobPart::Start => is_start(kind),
+        JobPart::Signals => is_signal(kind),
+        JobPart::Others => is_outside(kind),
+    }
+}
+
+/// Adds the numbers of the events that give the jobs of a part.
+fn push_part(
+    part: JobPart,
+    between: &[Event],
+    numbers: &mut Vec<EventNo>,
+) -> Result<(), OutOfMemory>
+    ensures { OnOk result (numbers.new.items ≡ numbers.old.items ++ numbers_by (job_in part) between.now) }
+{
+    for event in between {
+        push_if(numbers, gives(part, &event.body), event.number)?;
+    }
+    Ok(())
+}
+
+/// Adds the numbers of the events that give the jobs of a cut. `between` has the events since the
+/// cut before.
+fn push_numbers(
+    between: &[Event],
+    cut: &Event,
+    numbers: &mut Vec<EventNo>,
+) -> Result<(), OutOfMemory>
+    ensures { OnOk result (numbers.new.items ≡ numbers.old.items ++ numbers_of between.now cut.now) }
+{
+    numbers.push(cut.number)?;
+    push_part(JobPart::Start, between, numbers)?;
+    push_part(JobPart::Signals, between, numbers)?;
+    push_part(JobPart::Others, between, numbers)
+}
+
 /// Lists the numbers of the events that give the jobs of a cut. `between` has the events since the
 /// cut before.
 fn numbers_of(alloc: Global, between: &[Event], cut: &Event) -> Result<Vec<EventNo>, OutOfMemory>
     ensures { IfOk result (λ numbers. numbers.items ≡ numbers_of between.now cut.now) }
 {
     let mut numbers = Vec::new(alloc);
-    numbers.push(cut.number)?;
-    let mut signals = Vec::new(alloc);
-    let mut others = Vec::new(alloc);
-    for event in between {
-        push_if(&mut numbers, is_start(&event.body), event.number)?;
-        push_if(&mut signals, is_signal(&event.body), event.number)?;
-        push_if(&mut others, is_outside(&event.body), event.number)?;
-    }
-    numbers.append(&mut signals)?;
-    numbers.append(&mut others)?;
+    push_numbers(between, cut, &mut numbers)?;
     Ok(numbers)
 }
 

@@ -36,17 +36,6 @@ fn recorded_event(
     })
 }
 
-/// Pairs a command with the event in its place, which matches the command or not.
-fn pairing_of(alike: bool, command: Command, event: RecordedEvent) -> Pairing
-    ensures { result ≡ if alike then Alike command event else Different command event }
-{
-    if alike {
-        Pairing::Alike { command, event }
-    } else {
-        Pairing::Different { command, event }
-    }
-}
-
 /// Pairs copies of a command and of the event in its place.
 fn pair(
     alloc: Global,
@@ -59,7 +48,7 @@ fn pair(
     let alike = command.names(history, &event.body);
     let event = recorded_event(alloc, history, event)?;
     match command.try_copy() {
-        Ok(command) => Ok(pairing_of(alike, command, event)),
+        Ok(command) => Ok(Pairing::of(alike, command, event)),
         Err(full) => {
             drop(event);
             Err(full)
@@ -73,15 +62,6 @@ fn alone(alloc: Global, history: &[Event], event: &Event) -> Result<Pairing, Out
 {
     Ok(Pairing::CommandMissing {
         event: recorded_event(alloc, history, event)?,
-    })
-}
-
-/// Returns the pairing of a command for which no event is left.
-fn extra(command: &Command) -> Result<Pairing, OutOfMemory>
-    ensures { IfOk result (λ pairing. pairing ≡ CommandExtra command.now) }
-{
-    Ok(Pairing::CommandExtra {
-        command: command.try_copy()?,
     })
 }
 
@@ -101,7 +81,7 @@ fn add_extra(left: &[Command], paired: &mut Vec<Pairing>) -> Result<(), OutOfMem
         OnOk result (paired.new.items ≡ paired.old.items ++ pairings history left.now []) }
 {
     match left.first() {
-        Some(command) => add(extra(command), paired),
+        Some(command) => add(Pairing::extra(command), paired),
         None => Ok(()),
     }
 }

@@ -8,7 +8,7 @@ ghost use Rattle.wh_replay.specs.Views.{IsSpan, context_of, span_events};
 ghost use Rattle.wh_replay.specs.Activating.{IsWithin, IsOf};
 ghost use Rattle.wh_explain.specs.Differences.{if_differs, last_of};
 ghost use Rattle.wh_explain.specs.Numbers.{numbers_at};
-ghost use Rattle.wh_explain.specs.Private.Tasks.{IsEnd, IsTaskFinding, IsWalk, difference_in, explained_task};
+ghost use Rattle.wh_explain.specs.Private.Tasks.{IsEnd, IsTaken, IsTaskFinding, IsWalk, difference_in, explained_task};
 ghost use Rattle.wh_explain.specs.declared.explanation.Ending.TheVariants.{Refused};
 ghost use Rattle.wh_replay.specs.declared.fault.Fault.TheVariants.{Workflow as WorkflowFaulty};
 ghost use Rattle.wh_explain.specs.Private.Tasks.{fault_of, if_some, is_passed, mismatch_at};
@@ -320,6 +320,41 @@ fn add_task(tasks: &mut Vec<ExplainedTask>, task: Option<ExplainedTask>) -> Resu
     }
 }
 
+/// What a walk takes from a task.
+#[derive(Drop)]
+struct Taken<S> {
+    /// Why no task follows, if the task has a fault.
+    stop: Option<Stop>,
+    /// What the task leaves.
+    left: ReplayState<S>,
+}
+
+/// Replays the task of a cut, and adds it to those before it, if it is kept.
+fn take_task<W: Workflow>(
+    alloc: Global,
+    detail: Detail,
+    cut: &Cut,
+    before: ReplayState<W::State>,
+    tasks: &mut Vec<ExplainedTask>,
+) -> Result<Taken<W::State>, OutOfMemory>
+    requires within { IsWithin cut.now }
+    ensures { let told = jobs_at cut.now.track.now cut.now.previous cut.now.number in
+        let numbers = numbers_at cut.now.track.now cut.now.previous cut.now.number in
+        IfOk result (λ taken.
+        IsTaken detail W.program cut.now.track.now (context_of cut.now) told numbers cut.now.number
+        before.state before.versions tasks.old.items tasks.new.items taken.stop taken.left.state taken.left.versions) }
+{
+    let TaskFinding { task, stop, left } = find_task::<W>(alloc, detail, cut, before)?;
+    match add_task(tasks, task) {
+        Ok(()) => Ok(Taken { stop, left }),
+        Err(full) => {
+            drop(stop);
+            drop(left);
+            Err(full)
+        }
+    }
+}
+
 /// Goes over the tasks of a history in their order, up to the first that has a fault.
 pub(crate) fn walk_tasks<W: Workflow>(
     alloc: Global,
@@ -336,10 +371,9 @@ pub(crate) fn walk_tasks<W: Workflow>(
     let mut live = false;
     let mut last = 0;
     while let Some(cut) = cut_after(track, last) {
-        let found = find_task::<W>(alloc, detail, &cut, left)?;
-        left = found.left;
-        add_task(&mut tasks, found.task)?;
-        if let Some(stop) = found.stop {
+        let taken = take_task::<W>(alloc, detail, &cut, left, &mut tasks)?;
+        left = taken.left;
+        if let Some(stop) = taken.stop {
             return Ok(stopped(tasks, stop));
         }
         count += 1;

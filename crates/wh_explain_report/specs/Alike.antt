@@ -13,7 +13,7 @@ use Rattle.wh_explain.specs.declared.explanation.ExplainedTask.{ExplainedTask}
 use Rattle.wh_explain.specs.declared.explanation.RecordedEvent.{RecordedEvent}
 use Rattle.wh_explain.specs.declared.explanation.Pairing.{Pairing}
 use Rattle.wh_explain.specs.declared.explanation.Pairing.TheVariants as pairs
-use Rattle.wh_explain_report.specs.Phrases.{event_phrase}
+use Rattle.wh_phrases.specs.Phrases.{event_phrase}
 
 -- a byte is no decimal digit
 abbrev pub is_plain : ℕ → Bool

@@ -1,5 +1,3 @@
-pub mod Times
-pub mod Phrases
 pub mod Texts
 pub mod Sharing
 pub mod Alike
@@ -7,5 +5,5 @@ pub mod Selections
 pub mod TaskTexts
 pub mod Explanations
 pub mod Json
+pub mod Explained
 pub mod Laws
-pub mod Private

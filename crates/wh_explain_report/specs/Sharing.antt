@@ -12,7 +12,7 @@ use Rattle.wh_explain.specs.declared.explanation.Ending.TheVariants.{Recorded}
 use Rattle.wh_explain.specs.declared.explanation.ExplainedTask.{ExplainedTask}
 use Rattle.wh_explain.specs.declared.explanation.Pairing.{Pairing}
 use Rattle.wh_explain.specs.declared.explanation.Pairing.TheVariants.{Different, CommandMissing}
-use Rattle.wh_explain_report.specs.Phrases.{event_phrase}
+use Rattle.wh_phrases.specs.Phrases.{event_phrase}
 
 -- there is another id, and it is the same
 abbrev pub is_id : List ℕ → Option (List ℕ) → Bool

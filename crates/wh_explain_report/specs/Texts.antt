@@ -7,15 +7,14 @@ use Rattle.wh_workflow.specs.ActivationScripts.{Step}
 use Rattle.wh_workflow.specs.Jobs.{job_phrase}
 use Rattle.wh_workflow.specs.Names.{command_phrase}
 use Rattle.wh_tester.specs.Report.{shown}
-use Rattle.wh_explain.specs.declared.explanation.RecordedEvent.{RecordedEvent}
 use Rattle.wh_explain.specs.declared.explanation.Pairing.{Pairing}
-use Rattle.wh_explain.specs.declared.explanation.Pairing.TheVariants.{Alike, Different, CommandMissing, CommandExtra}
 use Rattle.wh_explain.specs.declared.explanation.Ending.{Ending}
 use Rattle.wh_explain.specs.declared.explanation.Ending.TheVariants.{Refused, Live, Recorded}
 use Rattle.wh_explain.specs.declared.explanation.ExplainedTask.{ExplainedTask}
 use Rattle.wh_explain.specs.Numbers.{left_after, number_of}
 use Rattle.wh_explain.specs.Pairings.{differs}
-use Rattle.wh_explain_report.specs.Phrases.{phrase_text, event_phrase}
+use Rattle.wh_phrases.specs.Phrases.{phrase_text}
+use Rattle.wh_phrases.specs.Sides.{sends_text, sides_text}
 
 -- `gives COMMAND`
 abbrev pub gives_line : Command → List ℕ
@@ -54,28 +53,9 @@ last_given (Some step) = slice_get step.commands (length step.commands - 1)
 abbrev pub last_command : List Step → Option Command
 last_command steps = last_given (slice_get steps (length steps - 1))
 
--- `NUMBER EVENT`
-abbrev pub event_text : RecordedEvent → List ℕ
-event_text event = decimal event.number ++ (codes " " ++ phrase_text (event_phrase event))
-
--- `sends COMMAND`
-abbrev pub sends_text : Command → List ℕ
-sends_text command = codes "sends " ++ phrase_text (command_phrase command)
-
 -- a command of a task that is not recorded yet
 abbrev pub sends_line : Command → List ℕ
 sends_line command = codes "  " ++ (sends_text command ++ 10 ∷ [])
-
--- `sends COMMAND, recorded EVENT`
-abbrev pub both_text : Command → RecordedEvent → List ℕ
-both_text command event = sends_text command ++ (codes ", recorded " ++ event_text event)
-
--- the command and the event of a pairing; `nothing` stands for the one that is missing
-abbrev pub sides_text : Pairing → List ℕ
-sides_text (Alike command event) = both_text command event
-sides_text (Different command event) = both_text command event
-sides_text (CommandMissing event) = codes "sends nothing, recorded " ++ event_text event
-sides_text (CommandExtra command) = sends_text command ++ codes ", recorded nothing"
 
 -- the words for a pairing that differs; nothing if it does not
 abbrev pub differs_text : Pairing → List ℕ

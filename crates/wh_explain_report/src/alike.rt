@@ -5,9 +5,9 @@ ghost use Rattle.std.specs.Cmp.Lexicographic.{pointwise};
 ghost use Rattle.wh_events.specs.Phrases.{phrase_seen};
 ghost use Rattle.wh_explain_report.specs.Alike as alike;
 
-use crate::phrase::event_phrase;
 use wh_events::Phrase;
 use wh_explain::{Ending, ExplainedTask, Pairing, RecordedEvent, Step};
+use wh_phrases::event_phrase;
 use wh_workflow::Command;
 
 /// Returns whether a byte is no decimal digit.

@@ -1,17 +1,16 @@
-//! Writes the explanation of a history, as text and as lines of JSON.
+//! Writes the explanation of a history, as text and as lines of JSON, and after it what is
+//! recorded, if there is no code for its workflow type.
 #![tactic(auto)]
 
 mod alike;
+mod explained;
 mod json_lines;
-mod keys;
 pub mod laws;
-mod phrase;
 mod selection;
 mod sharing;
 mod showing;
 mod tasks;
-mod times;
 
-pub use json_lines::{DifferenceMembers, write_json_explanation};
-pub use phrase::{PhraseText, event_phrase};
-pub use showing::{SidesText, write_explanation};
+pub use explained::{explain_command, explain_file, line_status, write_view_as};
+pub use json_lines::write_json_explanation;
+pub use showing::write_explanation;

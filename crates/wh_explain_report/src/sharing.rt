@@ -4,8 +4,8 @@ ghost use Rattle.std.specs.Prelude.{◌≡◌, option_map};
 ghost use Rattle.std.specs.List.{list_any};
 ghost use Rattle.wh_explain_report.specs.Sharing as sharing;
 
-use crate::phrase::event_phrase;
 use wh_explain::{Ending, ExplainedTask, Pairing, Step};
+use wh_phrases::event_phrase;
 use wh_workflow::{Command, Job};
 
 /// Returns whether the second id is there, and the same as the first.

@@ -1,92 +1,25 @@
 //! Writes an explanation as text.
 
 ghost use Rattle.std.specs.Prelude.{◌≡◌, ◌∷◌, ◌++◌, Some, OnOk, codes, option_map};
-ghost use Rattle.std.specs.Fmt.{DisplaysOnOk};
 ghost use Rattle.std.specs.List.{flat_map};
 ghost use Rattle.std.specs.Io.KnownBytes.{Appends};
-ghost use Rattle.wh_explain_report.specs.Texts.{both_text, differs_text, event_text, gives_line, last_command};
-ghost use Rattle.wh_explain_report.specs.Texts.{pairing_line, refuses_line, sends_line, sends_text, sides_text};
+ghost use Rattle.wh_explain_report.specs.Texts.{differs_text, gives_line, last_command, pairing_line};
+ghost use Rattle.wh_explain_report.specs.Texts.{refuses_line, sends_line};
 ghost use Rattle.wh_explain_report.specs.Texts.{ending_text, number_text, step_text, steps_text, task_text, told_line};
 ghost use Rattle.wh_explain_report.specs.Explanations.{explanation_text};
 ghost use Rattle.wh_explain_report.specs.Texts.{unknown_line};
 
-use crate::phrase::{PhraseText, event_phrase};
 use crate::tasks::write_chosen;
 use std::io::Write;
 use std::{fmt, io};
 use wh_events::{EventNo, Text};
 use wh_explain::{
-    Ending, ExplainedTask, Explanation, Pairing, RecordedEvent, Step, differs, left_after,
-    number_of,
+    Ending, ExplainedTask, Explanation, Pairing, Step, differs, left_after, number_of,
 };
+use wh_phrases::{PhraseText, SendsText, SidesText};
 use wh_tester::{Shown, is_good, write_line};
 use wh_view_report::Selection;
 use wh_workflow::{Command, Job};
-
-/// The number and the phrase of a recorded event.
-#[derive(Drop)]
-struct EventText<'a>(&'a RecordedEvent);
-
-impl fmt::Display for EventText<'_> {
-    ghost output = { λ t. Some (event_text t.0.now) };
-
-    fn fmt<W: fmt::Write>(&self, f: &mut fmt::Formatter<W>) -> fmt::Result {
-        let number = self.0.number.get();
-        let phrase = PhraseText(event_phrase(self.0));
-        write!(f, "{number} {phrase}")
-    }
-}
-
-/// The command that is sent.
-#[derive(Drop)]
-struct SendsText<'a>(&'a Command);
-
-impl fmt::Display for SendsText<'_> {
-    ghost output = { λ t. Some (sends_text t.0.now) };
-
-    fn fmt<W: fmt::Write>(&self, f: &mut fmt::Formatter<W>) -> fmt::Result {
-        let phrase = PhraseText(self.0.phrase());
-        write!(f, "sends {phrase}")
-    }
-}
-
-/// Writes the command that is sent and the event that is recorded.
-fn write_both<W: fmt::Write>(
-    command: &Command,
-    event: &RecordedEvent,
-    f: &mut fmt::Formatter<W>,
-) -> fmt::Result
-    ensures { let text = both_text command.now event.now in
-        DisplaysOnOk W.write_str_gives f.old result (Some text) f.new }
-{
-    let sends = SendsText(command);
-    let event = EventText(event);
-    write!(f, "{sends}, recorded {event}")
-}
-
-/// A command and the event in its place, as text: what is sent and what is recorded, with `nothing`
-/// for the one that is missing.
-#[derive(Drop)]
-pub struct SidesText<'a>(pub &'a Pairing);
-
-impl fmt::Display for SidesText<'_> {
-    ghost output = { λ p. Some (sides_text p.0.now) };
-
-    fn fmt<W: fmt::Write>(&self, f: &mut fmt::Formatter<W>) -> fmt::Result {
-        match self.0 {
-            Pairing::Alike { command, event } => write_both(command, event, f),
-            Pairing::Different { command, event } => write_both(command, event, f),
-            Pairing::CommandMissing { event } => {
-                let event = EventText(event);
-                write!(f, "sends nothing, recorded {event}")
-            }
-            Pairing::CommandExtra { command } => {
-                let sends = SendsText(command);
-                write!(f, "{sends}, recorded nothing")
-            }
-        }
-    }
-}
 
 /// Returns the words for a pairing that differs; nothing if it does not.
 fn differs_text(pairing: &Pairing) -> &'static str

@@ -3,8 +3,8 @@ use Rattle.std.specs.Prelude.{ℕ, Bool, true, false, List, Option, None}
 use Rattle.wh_json.specs.Events.{document_within, history}
 use Rattle.wh_json.specs.declared.fault.ReadFault.TheVariants.{MissingField}
 use Rattle.wh_replay.specs.declared.fault.Fault.TheVariants.{Place}
-use Rattle.wh_tester.specs.declared.line.Verdict.{Verdict}
-use Rattle.wh_tester.specs.declared.line.Verdict.TheVariants.{Faulty, Unreadable}
+use Rattle.wh_verdict.specs.declared.line.Verdict.{Verdict}
+use Rattle.wh_verdict.specs.declared.line.Verdict.TheVariants.{Faulty, Unreadable}
 use Rattle.wh_fault_details.specs.declared.detail.FaultDetail.{FaultDetail}
 use Rattle.wh_fault_details.specs.Fields.{lacks}
 use Rattle.wh_fault_details.specs.Places.{misplaced}

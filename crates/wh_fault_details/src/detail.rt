@@ -9,7 +9,7 @@ use std::alloc::Global;
 use wh_events::{EventNo, OutOfMemory, Text};
 use wh_json::ReadFault;
 use wh_replay::Fault;
-use wh_tester::Verdict;
+use wh_verdict::Verdict;
 
 /// What the report of a fault does not name of an event. The event is given by its place in the
 /// history, counted from 1.

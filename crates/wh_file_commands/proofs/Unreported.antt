@@ -2,7 +2,7 @@
 use Rattle.std.proofs.Common.{◌≡◌, ℕ, List, inl, inr, refl, sym, subst}
 use Rattle.std.specs.Prelude.{false, Option, Some, Result, Ok, Err, IfErr, IsSome}
 use Rattle.std.specs.Result.{IsErrAnd}
-use Rattle.wh_diagnostics.proofs.ReadFailures.{input_fails_to_read}
+use Rattle.wh_diagnostics.proofs.ReadFailures.{input_fails_to_read, unread_unreported}
 use Rattle.wh_diagnostics.specs.Failures.{input_failure, IsReadFailure, IsReportFailure}
 use Rattle.wh_diagnostics.specs.declared.failures.Failure.{Failure}
 use Rattle.wh_diagnostics.specs.declared.failures.Failure.TheVariants.{BadLine, BadArguments, FewSlots, BadInput, Unreadable, NotJson, NotViewed, NotText, BadPolicies, Output, OutOfMemory}
@@ -15,20 +15,6 @@ use Rattle.wh_files.specs.declared.InputFault.{InputFault}
 use Rattle.wh_inputs.specs.Listings.{IsUnreadAt}
 use Rattle.wh_inputs.specs.Readings.{Gives, IsReadAs}
 use Rattle.wh_queryable.specs.declared.queryable.Query.{Query}
-
--- what can't be read has no full report
-pub unread_fails : (failure : Failure) → IsReadFailure failure → IsReportFailure failure
-unread_fails (Unreadable dir entry reason) h = tt
-unread_fails OutOfMemory h = tt
-unread_fails Output h = tt
-unread_fails (BadLine text) h = absurd h
-unread_fails BadArguments h = absurd h
-unread_fails FewSlots h = absurd h
-unread_fails BadInput h = absurd h
-unread_fails (NotJson fault) h = absurd h
-unread_fails (NotViewed file fault) h = absurd h
-unread_fails (NotText file) h = absurd h
-unread_fails (BadPolicies file fault) h = absurd h
 
 -- where nothing can be read, that is why
 unread_at_fails : (path : List ℕ) (failure : Failure) → IsUnreadAt path failure → IsReadFailure failure
@@ -71,11 +57,11 @@ path_unreported path input (Err failure) called from single h =
 
 -- what has no full report can't be read, or it can't be written
 unreported_input_fails : (gives : Gives) (input : Input) (failure : Failure) → IsUnreportedInput gives input failure → IsReportFailure failure
-unreported_input_fails gives input failure (inl unread) = unread_fails failure unread
+unreported_input_fails gives input failure (inl unread) = unread_unreported failure unread
 unreported_input_fails gives input failure (inr unwritten) = subst IsReportFailure (sym unwritten.output) tt
 
 unreported_path_fails : (path : List ℕ) (failure : Failure) → IsUnreportedPath path failure → IsReportFailure failure
-unreported_path_fails path failure (inl unread) = unread_fails failure (unread_at_fails path failure unread)
+unreported_path_fails path failure (inl unread) = unread_unreported failure (unread_at_fails path failure unread)
 unreported_path_fails path failure (inr at) = unreported_input_fails IsReadFrom at.input failure at.unreported
 
 pub unreported_fails : (path : List ℕ) (answer : Result ℕ Failure) → IfErr answer (IsUnreportedPath path) → IfErr answer IsReportFailure

@@ -8,9 +8,8 @@ use Rattle.wh_file_faults.specs.declared.file_faults.FileFault.{FileFault}
 use Rattle.wh_files.specs.Inputs.{IsCalled, IsOf, IsReadFrom, IsSingle}
 use Rattle.wh_files.specs.declared.Input.{Input}
 use Rattle.wh_inputs.specs.Readings.{Gives, IsReadAs}
-use Rattle.wh_report.specs.Commands.{IsExplained}
-use Rattle.wh_report.specs.Reports.{status_of}
-use Rattle.wh_tester.specs.declared.line.Line.{Line}
+use Rattle.wh_explain_report.specs.Explained.{IsExplained, status_of}
+use Rattle.wh_verdict.specs.declared.line.Line.{Line}
 use Rattle.wh_view_report.specs.declared.text.Selection.{Selection}
 use Rattle.wh_workflow.specs.Law.{Program}
 

@@ -1,8 +1,6 @@
-pub mod Batches
 pub mod Explanations
 pub mod Pages
 pub mod Private
 pub mod Queries
 pub mod Refusals
-pub mod Replays
 pub mod Views

@@ -11,7 +11,6 @@ use Rattle.wh_files.specs.Inputs.{IsCalled, IsOf, IsReadFrom, IsSingle}
 use Rattle.wh_files.specs.declared.Input.{Input}
 use Rattle.wh_inputs.specs.Listings.{IsUnreadAt}
 use Rattle.wh_inputs.specs.Readings.{Gives, IsReadAs}
-use Rattle.wh_json.specs.declared.fault.ReadFault.{ReadFault}
 use Rattle.wh_json.specs.declared.fault.ReadFault.TheVariants as reads
 use Rattle.wh_queryable.specs.declared.queryable.Query.{Query}
 use Rattle.wh_view.specs.Views.{members_of}

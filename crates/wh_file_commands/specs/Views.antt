@@ -7,7 +7,7 @@ use Rattle.wh_file_faults.specs.Faults.{File}
 use Rattle.wh_files.specs.Inputs.{IsCalled, IsOf, IsReadFrom, IsSingle}
 use Rattle.wh_files.specs.declared.Input.{Input}
 use Rattle.wh_inputs.specs.Readings.{Gives, IsReadAs}
-use Rattle.wh_report.specs.Commands.{view_as}
+use Rattle.wh_explain_report.specs.Explained.{view_as}
 use Rattle.wh_view.specs.Views.{IsViewIn}
 use Rattle.wh_view.specs.declared.view.View.{View as FileView}
 use Rattle.wh_view_report.specs.declared.text.Selection.{Selection}

@@ -8,7 +8,7 @@ ghost use Rattle.wh_file_commands.specs.Explanations.{HasReportedFault};
 ghost use Rattle.wh_file_commands.specs.Private.Refusals.{IsWriteFailure};
 ghost use Rattle.wh_file_commands.specs.Refusals.{IsUnreportedInput, IsUnreportedPath};
 ghost use Rattle.wh_file_faults.specs.Faults.{IsFaultOf, IsUnreadCause};
-ghost use Rattle.wh_report.specs.Commands.{IsExplained};
+ghost use Rattle.wh_explain_report.specs.Explained.{IsExplained};
 
 use std::alloc::Global;
 use std::io::Write;
@@ -16,11 +16,11 @@ use std::rt::Runtime;
 use wh_console::{Console, Format, Outlet};
 use wh_diagnostics::{Diagnostic, Failure, flushed};
 use wh_events::{OutOfMemory, Text};
+use wh_explain_report::{explain_file, line_status};
 use wh_file_faults::{CommandFault, FileFault, unread_cause};
 use wh_files::Input;
 use wh_inputs::{InputReader, file_from, input_of};
-use wh_report::{explain_file, line_status};
-use wh_tester::Line;
+use wh_verdict::Line;
 use wh_view_report::Selection;
 use wh_workflow::Workflow;
 

@@ -57,8 +57,15 @@ fn query_file<W: Queryable, O: Write, E: Write>(
         Ok(queried) => queried,
         Err(fault) => return flushed(Err(fault), console),
     };
-    let status = flushed(Ok(wh_query_report::status_of(&queried)), console)?;
-    let Queried { own, .. } = queried;
+    let status = match flushed(Ok(wh_query_report::status_of(&queried)), console) {
+        Ok(status) => status,
+        Err(failure) => {
+            drop(queried);
+            return Err(failure);
+        }
+    };
+    let Queried { own, given } = queried;
+    drop(given);
     let lacking = lacks_code(&own.cause);
     console.report(Diagnostic::Queried { own });
     console.report(KnownTypes { types, lacking });

@@ -5,7 +5,7 @@ ghost use Rattle.wh_console.specs.Consoles.{IsQuiet, Printed};
 ghost use Rattle.wh_file_commands.specs.Private.Refusals.{IsUnviewed, IsUnviewedJson};
 ghost use Rattle.wh_file_commands.specs.Refusals.{IsRefused, IsUnshown, IsUnshownInput, IsUnshownPath};
 ghost use Rattle.wh_file_commands.specs.Views.{HasViewed, HasViewedInput, HasViewedPath};
-ghost use Rattle.wh_report.specs.Commands.{view_as};
+ghost use Rattle.wh_explain_report.specs.Explained.{view_as};
 
 use std::alloc::Global;
 use std::io::Write;
@@ -13,11 +13,11 @@ use std::rt::Runtime;
 use wh_console::{Console, Format};
 use wh_diagnostics::{Failure, flushed};
 use wh_events::{OutOfMemory, Text};
+use wh_explain_report::write_view_as;
 use wh_file_faults::{CommandFault, json_fault};
 use wh_files::Input;
 use wh_inputs::{InputReader, file_from, input_of};
 use wh_json::ReadFault;
-use wh_report::write_view_as;
 use wh_view::{View, view_of};
 use wh_view_report::Selection;
 

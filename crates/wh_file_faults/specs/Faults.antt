@@ -8,8 +8,8 @@ use Rattle.wh_explain.specs.Explaining.{unknown_in}
 use Rattle.wh_json.specs.Events.{document_within, history}
 use Rattle.wh_json.specs.Fields.{document}
 use Rattle.wh_json.specs.declared.fault.ReadFault.TheVariants.{BadJson}
-use Rattle.wh_tester.specs.declared.line.Verdict.{Verdict}
-use Rattle.wh_tester.specs.declared.line.Verdict.TheVariants.{Unreadable}
+use Rattle.wh_verdict.specs.declared.line.Verdict.{Verdict}
+use Rattle.wh_verdict.specs.declared.line.Verdict.TheVariants.{Unreadable}
 use Rattle.wh_workflow.specs.Law.{Program}
 use Rattle.wh_file_faults.specs.declared.file_faults.Cause.{Cause}
 use Rattle.wh_file_faults.specs.declared.file_faults.Cause.TheVariants.{NotJson, NoCode}

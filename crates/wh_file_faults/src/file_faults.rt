@@ -14,7 +14,8 @@ use wh_events::{OutOfMemory, Text};
 use wh_explain::unknown_type;
 use wh_json::ReadFault;
 use wh_machines::Track;
-use wh_tester::{Shown, Verdict};
+use wh_tester::Shown;
+use wh_verdict::Verdict;
 use wh_workflow::Workflow;
 
 /// Why a file is named beside the report.

@@ -12,9 +12,9 @@ use Rattle.wh_page.specs.Pages.{page_html}
 use Rattle.wh_run_page.specs.Pages.{page_of}
 use Rattle.wh_run_page.specs.declared.said.Said.{Said}
 use Rattle.wh_tester.specs.Report.{is_good, verdict_text}
-use Rattle.wh_tester.specs.Verdicts.{IsVerdict}
-use Rattle.wh_tester.specs.declared.line.Verdict.{Verdict}
-use Rattle.wh_tester.specs.declared.line.Verdict.TheVariants.{OutOfMemory}
+use Rattle.wh_verdict.specs.Verdicts.{IsVerdict}
+use Rattle.wh_verdict.specs.declared.line.Verdict.{Verdict}
+use Rattle.wh_verdict.specs.declared.line.Verdict.TheVariants.{OutOfMemory}
 use Rattle.wh_timeline.specs.Views.{IsAxisOf}
 use Rattle.wh_timeline.specs.declared.axis.Stop.{Stop}
 use Rattle.wh_timeline.specs.declared.page.Page.{Page}

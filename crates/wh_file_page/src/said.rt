@@ -9,7 +9,8 @@ use wh_events::{OutOfMemory, Text};
 use wh_explain::{Finding, check_file};
 use wh_fault_details::{FaultDetail, detail_of};
 use wh_run_page::Said;
-use wh_tester::{Verdict, is_good};
+use wh_tester::is_good;
+use wh_verdict::Verdict;
 use wh_workflow::Workflow;
 
 /// What is said of a file, and the status of its report.

@@ -7,12 +7,13 @@ ghost use Rattle.wh_tester.specs.Report.{event_of, live_text, verdict_text};
 use std::alloc::Global;
 use wh_events::{OutOfMemory, Text};
 use wh_explain::{Pairing, RecordedEvent};
-use wh_explain_report::{PhraseText, event_phrase};
 use wh_fault_details::FaultDetail;
 use wh_json::ReadFault;
+use wh_phrases::{PhraseText, event_phrase};
 use wh_replay::{Checked, Fault};
-use wh_tester::{FaultText, ReplayFaultText, Verdict};
+use wh_tester::{FaultText, ReplayFaultText};
 use wh_timeline::Difference;
+use wh_verdict::Verdict;
 use wh_workflow::{Command, Mismatch};
 
 /// A text of its own.

@@ -1,7 +1,7 @@
 //! The activity task that a worker runs, shared by its source and its handler.
 
-ghost use Rattle.std.specs.Prelude.{◌≡◌};
-ghost use Rattle.wh_heartbeat.specs.Cells.{noted, was_canceled};
+ghost use Rattle.std.specs.Prelude.{◌≡◌, IfOk, IfSome, option_map};
+ghost use Rattle.wh_heartbeat.specs.Cells.{begun, noted_in, was_canceled};
 
 use std::sync::{Mutex, Wait};
 use wh_events::{OutOfMemory, Text};
@@ -15,27 +15,56 @@ struct RunningActivity {
     is_canceled: bool,
 }
 
-impl RunningActivity {
-    /// Whether this is the task of the token, and is to be canceled.
-    fn was_canceled(&self, token: &str) -> bool
-        ensures { result ≡ was_canceled self.now token.now }
-    {
-        self.is_canceled && self.token.get() == token
+/// Returns the task of the token, which is not to be canceled so far. `None` if there was no memory
+/// for a copy of the token.
+fn begun(token: &Text) -> Option<RunningActivity>
+    ensures { IfSome result (λ running. running ≡ begun token.now) }
+{
+    match token.try_copy() {
+        Ok(token) => Some(RunningActivity {
+            token,
+            is_canceled: false,
+        }),
+        Err(_) => None,
     }
+}
 
-    /// Notes that the task is to be canceled, if it is the one of the token.
-    fn note_cancel(&mut self, token: &str)
-        ensures { self.new ≡ noted self.old token.now }
-    {
-        if self.token.get() == token {
-            self.is_canceled = true;
+/// Returns a copy of the token of the task, if there is one. Returns `OutOfMemory` if there was no
+/// memory for the copy.
+fn token_of(running: &Option<RunningActivity>) -> Result<Option<Text>, OutOfMemory>
+    ensures { IfOk result (λ token. token ≡ option_map (λ r. r.token) running.now) }
+{
+    match running {
+        Some(running) => Ok(Some(running.token.try_copy()?)),
+        None => Ok(None),
+    }
+}
+
+/// Notes that the task is to be canceled, if there is one and it is that of the token.
+fn note_cancel(running: &mut Option<RunningActivity>, token: &str)
+    ensures { running.new ≡ noted_in running.old token.now }
+{
+    if let Some(running) = running {
+        if running.token.get() == token {
+            running.is_canceled = true;
         }
+    }
+}
+
+/// Whether there is a task, it is that of the token, and is to be canceled.
+fn was_canceled(running: &Option<RunningActivity>, token: &str) -> bool
+    ensures { result ≡ was_canceled running.now token.now }
+{
+    match running {
+        Some(running) => running.is_canceled && running.token.get() == token,
+        None => false,
     }
 }
 
 /// What a worker's source and the handler of its activities know of the task that it runs. The
 /// source sets which task it is, and the handler's heartbeat whether it is to be canceled. The
-/// threads of both may differ, so contracts don't see what the cell holds.
+/// threads of both may differ, so contracts don't see what the cell holds: each call takes the
+/// cell's lock and does one thing with what it holds, which a contract pins.
 #[derive(Drop)]
 pub struct ActivityCell {
     running: Mutex<Option<RunningActivity>>,
@@ -52,36 +81,22 @@ impl ActivityCell {
     /// Notes that the task of this token runs now, in place of the one before. If there is no
     /// memory for a copy of the token, the cell holds no task.
     pub fn begin<R: Wait>(&self, rt: &R, token: &Text) {
-        *self.running.lock(rt) = match token.try_copy() {
-            Ok(token) => Some(RunningActivity {
-                token,
-                is_canceled: false,
-            }),
-            Err(_) => None,
-        };
+        *self.running.lock(rt) = begun(token);
     }
 
     /// Returns a copy of the token of the task that runs, if one does. Returns `OutOfMemory` if
     /// there was no memory for the copy.
     pub fn token<R: Wait>(&self, rt: &R) -> Result<Option<Text>, OutOfMemory> {
-        match &*self.running.lock(rt) {
-            Some(running) => Ok(Some(running.token.try_copy()?)),
-            None => Ok(None),
-        }
+        token_of(&self.running.lock(rt))
     }
 
     /// Notes that the task of this token is to be canceled, if it is the one that runs.
     pub fn note_cancel<R: Wait>(&self, rt: &R, token: &Text) {
-        if let Some(running) = &mut *self.running.lock(rt) {
-            running.note_cancel(token.get());
-        }
+        note_cancel(&mut self.running.lock(rt), token.get());
     }
 
     /// Whether the task of this token is the one that runs, and is to be canceled.
     pub fn was_canceled<R: Wait>(&self, rt: &R, token: &Text) -> bool {
-        match &*self.running.lock(rt) {
-            Some(running) => running.was_canceled(token.get()),
-            None => false,
-        }
+        was_canceled(&self.running.lock(rt), token.get())
     }
 }

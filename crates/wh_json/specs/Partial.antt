@@ -1,5 +1,5 @@
 -- What can be read of an event, whatever it lacks.
-use Rattle.std.specs.Prelude.{ℕ, ℤ, pos, List, [], codes, Bool, Option, Some, None, Result, Ok, Err, option_map, option_and_then, unwrap_or, if◌then◌else◌}
+use Rattle.std.specs.Prelude.{ℕ, pos, List, [], codes, Option, Some, None, Result, Ok, Err, option_map, option_and_then, unwrap_or, if◌then◌else◌}
 use Rattle.std.specs.Option.{option_map_or}
 use Rattle.serde_json.specs.Data.{Data}
 use Rattle.wh_events.specs.declared.event.Event.{Event}
@@ -7,7 +7,7 @@ use Rattle.wh_events.specs.declared.kind.EventKind.{EventKind}
 use Rattle.wh_json.specs.declared.fault.ReadFault.{ReadFault}
 use Rattle.wh_json.specs.declared.partial.PartialEvent.{PartialEvent}
 use Rattle.wh_json.specs.declared.types.Fields.{Fields}
-use Rattle.wh_json.specs.Fields.{field, at_path, text_of, time_of}
+use Rattle.wh_json.specs.Fields.{field, text_of, time_of}
 use Rattle.wh_json.specs.Types.{Rule}
 use Rattle.wh_json.specs.Events.{type_name, rule_for, attributes_of, event_number, read_path, number_or_zero, event_at}
 

@@ -137,8 +137,8 @@ pub fn partial_event(
 ) -> Result<PartialEvent, OutOfMemory>
     ensures { IfOk result (λ event. event ≡ partial_event at before (view member.now)) }
 {
-    let (kind, fault) = kind_and_fault(alloc, at, before, member)?;
     let name = copied(alloc, name_of(member))?;
+    let (kind, fault) = kind_and_fault(alloc, at, before, member)?;
     Ok(PartialEvent {
         number: event_number(member),
         time: time_of(text_of(field(Some(member), "eventTime"))),

@@ -33,6 +33,7 @@ receipts_by_fault asked.OutOfMemory = (λ e. cc, (λ e. cc, λ e. cc))
 -- a run that is cached has an acknowledged answer
 pub cached_acknowledged : (of : Receipt) → run_use of ≡ Cache → of ≡ receipt.Acknowledged
 cached_acknowledged receipt.Acknowledged e = refl
+cached_acknowledged receipt.Discarded e = cc
 cached_acknowledged receipt.NotFound e = cc
 cached_acknowledged receipt.Invalid e = cc
 cached_acknowledged receipt.Withheld e = cc

@@ -1,3 +1,4 @@
 pub mod Faults
 pub mod Later
+pub mod Silent
 pub mod Waiting

@@ -29,9 +29,13 @@ fn activity_request<L: Connection>(
 {
     match answer {
         ActivityAnswer::Completed(outcome) => client.activity_completed(&task.token, outcome.get()),
-        ActivityAnswer::Failed(reason) => {
-            client.activity_failed(&task.token, reason.get(), was_canceled)
-        }
+        ActivityAnswer::Failed(failure) => client.activity_failed(
+            &task.token,
+            failure.message.get(),
+            &failure.failure_type,
+            failure.retryable,
+            was_canceled,
+        ),
     }
 }
 

@@ -1,6 +1,6 @@
 //! Answers workflow tasks, and sends and counts answers.
 
-ghost use Rattle.std.specs.Prelude.{◌≡◌, ◌≢◌, ◌≤◌, ◌<◌, ◌↔◌, ◌++◌, ◌∷◌, [], true, None, IsTrue, IsOk};
+ghost use Rattle.std.specs.Prelude.{◌≡◌, ◌≢◌, ◌≤◌, ◌<◌, ◌↔◌, ◌++◌, ◌∷◌, [], true, false, None, Ok, IsTrue, IsOk};
 ghost use Rattle.std.specs.Prelude.{IfOk, IsOkAnd, OnOk, OnErr};
 ghost use Rattle.wh_client.specs.Codes.{is_taken};
 ghost use Rattle.wh_client.specs.Requests.{IsAcknowledged};
@@ -20,7 +20,9 @@ use crate::task_log::log_workflow;
 use crate::tasks::OpenTask;
 use crate::texts::{fault_text, history_text, replay_text, request_text};
 use std::alloc::AllocError;
-use wh_client::{AskFault, Client, Connection, Receipt, Request, Status, refused_answer};
+use wh_client::{
+    AskFault, Client, Connection, Receipt, Request, Status, accepted_answer, refused_answer,
+};
 use wh_commands::{CarriedOver, RequestFault, continues_as_new};
 use wh_events::{Event, OutOfMemory};
 use wh_ghost_list::GhostList;
@@ -119,19 +121,19 @@ fn report_fault<L: Connection>(client: &Client<'_, L>, task: &OpenTask, fault: &
     }
 }
 
-/// Returns what became of an answer that was sent, and reports it if it was refused or lost and
-/// that is not normal.
+/// Returns what became of an answer that was sent, by whether the server discarded the task, and
+/// reports it if it was refused or lost and that is not normal.
 fn receive<L: Connection>(
     client: &Client<'_, L>,
     task: &OpenTask,
-    sent: Result<(), AskFault>,
+    sent: Result<bool, AskFault>,
 ) -> Receipt
     ensures is { result ≡ receipt_of_sent sent }
-    ensures acknowledged { result ≡ Acknowledged → IsOk sent }
+    ensures acknowledged { result ≡ Acknowledged → sent ≡ Ok false }
     ensures sent { result ≢ Withheld }
 {
     match sent {
-        Ok(()) => Receipt::Acknowledged,
+        Ok(is_discarded) => accepted_answer(is_discarded),
         Err(fault) => {
             if is_reported(&fault) {
                 report_fault(client, task, &fault);
@@ -352,7 +354,7 @@ fn answer_open<L: Connection>(
 }
 
 /// Answers the workflow task of a name, and records the answer if it counts as taken. The run may
-/// be cached if the server acknowledged the answer.
+/// be cached if the server acknowledged the answer and did not discard the task.
 pub(crate) fn answer_workflow<L: Connection>(
     client: &Client<'_, L>,
     journal: &mut Journal,

@@ -2,14 +2,14 @@
 
 ghost use Rattle.std.specs.Prelude.{◌≡◌, Ok, IfOk};
 ghost use Rattle.wh_live.specs.Private.Counting.{with_brought, with_end};
-ghost use Rattle.wh_live.specs.Private.Polls.{end_of, EndsPoll, WaitsAfter, WaitsFor, polled_of};
+ghost use Rattle.wh_live.specs.Private.Polls.{end_of, EndsPoll, Reports, WaitsAfter, WaitsFor, polled_of};
 ghost use Rattle.wh_live.specs.Tallies.{no_counts};
 ghost use Rattle.wh_tasks.specs.Source.{FailsOnly, IfTask};
 ghost use Rattle.wh_live.specs.declared.tasks.Brought.TheVariants.{Task};
 
 use crate::tallies::Tally;
 use crate::tasks::Brought;
-use crate::texts::fault_text;
+use crate::texts::poll_text;
 use crate::troubles::Trouble;
 use wh_client::{AskFault, Connection, PollEnd, poll_end};
 use wh_tasks::{Polled, SourceFault};
@@ -43,7 +43,7 @@ fn polled_of<T>(brought: Brought<T>) -> Polled<T>
 {
     match brought {
         Brought::Task(task) => Polled::Task(task),
-        Brought::Empty | Brought::Settled => Polled::Nothing,
+        Brought::Empty | Brought::Settled | Brought::Lost(_) => Polled::Nothing,
     }
 }
 
@@ -59,7 +59,9 @@ impl Journal {
         }
     }
 
-    /// Counts a failed poll, reports it and waits. Returns what the source reports to its worker.
+    /// Counts a failed poll, reports it and waits. If no later poll can succeed, none is made any
+    /// more by any worker of the process, so that it ends. Returns what the source reports to its
+    /// worker.
     fn end_failed_poll<L: Connection, T>(
         &mut self,
         connection: &L,
@@ -75,13 +77,43 @@ impl Journal {
             return Ok(Polled::Closed);
         }
         self.tally.polled(false);
-        let text = fault_text(connection.allocator(), fault);
+        if end == PollEnd::Never {
+            connection.stop_polls();
+        }
+        let text = poll_text(connection.allocator(), fault, end);
         self.trouble.meet(connection, text);
         if end == PollEnd::Later {
             return Ok(Polled::Nothing);
         }
         self.ended = true;
         Err(self.tally.count_failure(true))
+    }
+
+    /// Counts a poll that got a result. If its task is given up that is reported, and the worker
+    /// waits as after a failed poll. Returns what the source reports to its worker.
+    fn count_brought<L: Connection, T: Drop>(
+        &mut self,
+        connection: &L,
+        brought: Brought<T>,
+    ) -> Polled<T>
+        ensures is { result ≡ polled_of brought }
+        ensures failures { self.new.tally.failures ≡ self.old.tally.failures }
+        ensures tally { self.new.tally ≡ with_brought (Ok brought) self.old.tally }
+        ensures trouble { WaitsFor (Ok brought) self.old.trouble self.new.trouble }
+    {
+        match brought {
+            Brought::Lost(text) => {
+                self.tally.polled(false);
+                self.tally.lose_task();
+                self.trouble.meet(connection, text);
+                Polled::Nothing
+            }
+            brought => {
+                self.trouble.end(connection);
+                self.tally.polled(matches!(&brought, Brought::Empty));
+                polled_of(brought)
+            }
+        }
     }
 
     /// Counts a poll. Returns what the source reports to its worker.
@@ -91,16 +123,13 @@ impl Journal {
         brought: Result<Brought<T>, AskFault>,
     ) -> Result<Polled<T>, SourceFault>
         ensures task { IfOk result (IfTask (λ task. brought ≡ Ok (Task task))) }
+        ensures reports { Reports brought result }
         ensures failures { FailsOnly result self.old.tally.failures self.new.tally.failures }
         ensures tally { self.new.tally ≡ with_brought brought self.old.tally }
         ensures trouble { WaitsFor brought self.old.trouble self.new.trouble }
     {
         match brought {
-            Ok(brought) => {
-                self.trouble.end(connection);
-                self.tally.polled(matches!(&brought, Brought::Empty));
-                Ok(polled_of(brought))
-            }
+            Ok(brought) => Ok(self.count_brought(connection, brought)),
             Err(fault) => self.end_failed_poll(connection, &fault),
         }
     }

@@ -41,7 +41,7 @@ fn acknowledged(run: RunUse, name: TaskName) -> Option<TaskName>
 /// An answer counts as taken if the server acknowledged it, if the server no longer needs it (the
 /// task is over, or the server has failed it itself), and if it was withheld on purpose: a failure
 /// is only sent in the first attempt of a task. The run of a task may be cached only if the server
-/// acknowledged the answer.
+/// acknowledged the answer, and did not say that it has discarded the task.
 ///
 /// It has one task at a time: a task that is not answered before the next poll is left to time out.
 /// A query that comes alone is passed, during the poll, to what answers queries beside the workers;

@@ -1,14 +1,18 @@
 //! Polls for tasks.
 
-ghost use Rattle.std.specs.Prelude.{◌≡◌, [], IfOk, Some, map};
+ghost use Rattle.std.specs.Prelude.{◌≡◌, ◌↔◌, [], IfErr, IfOk, IsErr, Some, map};
 ghost use Rattle.serde_json.specs.View.{view};
 ghost use Rattle.wh_client.specs.Histories.{ReadsEvents};
+ghost use Rattle.wh_client.specs.Refusals.{HasItsStatus};
 ghost use Rattle.wh_client.specs.Roles.{polls_sticky};
+ghost use Rattle.wh_client.specs.declared.asking.AskFault.TheVariants as asked;
 ghost use Rattle.wh_responses.specs.Responses.{task_seen};
 ghost use Rattle.wh_tasks.specs.Source.{FailsOnly, IfTask};
 ghost use Rattle.wh_live.specs.Deliveries.{AreLater, FromActivities, FromQueue, IsActivityOf, IsActivityTask};
 ghost use Rattle.wh_live.specs.Deliveries.{IsTaskOf, IsWorkflowTask};
 ghost use Rattle.wh_live.specs.Private.Opening.{IsOpened, OnTask, Opens, OpensActivity, StaysOpen};
+ghost use Rattle.wh_live.specs.Private.Opening.{IsBrought, IsBroughtActivity, IsLost, IsSilent, IsTask};
+ghost use Rattle.wh_live.specs.Private.Opening.{MayOpen, MayRead};
 ghost use Rattle.wh_live.specs.Private.Opening.{GivesOpened, HasLater, OpensPolled, OpensPolledActivity, OpensQueued};
 ghost use Rattle.wh_live.specs.Private.Opening.{later_events};
 ghost use Rattle.wh_replay.specs.Runs.{follows};
@@ -18,6 +22,7 @@ use crate::fetching::append_copies;
 use crate::journals::Journal;
 use crate::queries::hand_query_on;
 use crate::tasks::{Brought, OpenTask};
+use crate::texts::lost_text;
 use serde_json::Value;
 use std::alloc::Global;
 use wh_client::{AskFault, Client, Connection, Role, read_history};
@@ -87,6 +92,23 @@ fn given(
     Ok((task, delivered))
 }
 
+/// Gives up a task whose history could not be fetched or read, with the fault and the run for a
+/// report. If the bridge has closed there is no more to be reported, and the error says so.
+fn give_up<L: Connection, T>(
+    client: &Client<'_, L>,
+    task: &OpenTask,
+    fault: AskFault,
+) -> Result<Brought<T>, AskFault>
+    ensures lost { IfOk result IsLost }
+    ensures closed { IfErr result (λ why. why ≡ asked.Closed) }
+    ensures ends { IsErr result ↔ (fault ≡ asked.Closed) }
+{
+    match fault {
+        AskFault::Closed => Err(AskFault::Closed),
+        fault => Ok(Brought::Lost(lost_text(client.allocator(), task, &fault))),
+    }
+}
+
 /// Reads the events of a task and returns the open task and the one to be delivered. If the events
 /// are malformed the task is failed.
 fn read_task<L: Connection>(
@@ -99,6 +121,8 @@ fn read_task<L: Connection>(
         (taken.1.run ≡ run) × ReadsEvents (map view members.now) taken.1.events)) }
     ensures opened { IfOk result (OnTask (λ taken. StaysOpen task taken.0 taken.1.name)) }
     ensures later { IfOk result (OnTask (λ taken. taken.0.later.items ≡ later_events taken.1.events)) }
+    ensures brings { IfOk result (MayRead (map view members.now)) }
+    ensures silent { IfErr result IsSilent }
 {
     match read_history(client.allocator(), members) {
         Ok(events) => Ok(Brought::Task(given(client.allocator(), task, run, events)?)),
@@ -106,11 +130,13 @@ fn read_task<L: Connection>(
             fail_unreadable(client, &task, &fault);
             Ok(Brought::Settled)
         }
-        Err(fault) => Err(fault),
+        Err(fault) => give_up(client, &task, fault),
     }
 }
 
-/// Opens the workflow task that the poll of an id returned, with all pages of its history.
+/// Opens the workflow task that the poll of an id returned, with all pages of its history. If they
+/// could not be fetched the task is given up. The error says that the bridge has closed, or that
+/// there was no memory.
 fn open_task<L: Connection>(
     client: &Client<'_, L>,
     id: u64,
@@ -120,6 +146,8 @@ fn open_task<L: Connection>(
         IsTaskOf L.gives client.now.options.now.names (task_seen polled) taken.1)) }
     ensures opened { IfOk result (OnTask (λ taken. Opens id (task_seen polled) taken.0 taken.1.name)) }
     ensures later { IfOk result (OnTask (λ taken. taken.0.later.items ≡ later_events taken.1.events)) }
+    ensures brings { IfOk result (MayOpen L.gives client.now.options.now.names (task_seen polled)) }
+    ensures silent { IfErr result IsSilent }
 {
     let PolledTask {
         token,
@@ -132,11 +160,14 @@ fn open_task<L: Connection>(
     let key = run.try_copy()?;
     let mut opened = OpenTask::new(client.allocator(), id, token, key);
     opened.attempt = attempt;
-    let members = client.with_pages(&run, next_page, members)?;
-    read_task(client, opened, run, members.as_slice())
+    match client.with_pages(&run, next_page, members) {
+        Ok(members) => read_task(client, opened, run, members.as_slice()),
+        Err(fault) => give_up(client, &opened, fault),
+    }
 }
 
-/// Polls for workflow tasks and reads the result.
+/// Polls for workflow tasks and reads the result. One that can't be read is a fault.
+#[tactic(auto, using(crate::proofs::Silent::silent_has_status))]
 fn take_workflow<L: Connection>(
     client: &Client<'_, L>,
     sticky: bool,
@@ -147,6 +178,8 @@ fn take_workflow<L: Connection>(
         OpensPolled L.gives client.now.options.now.names sticky taken.0 taken.1)) }
     ensures later { IfOk result (OnTask (λ taken.
         AreLater L.gives client.now.options.now.names (Some sticky) taken.0.run taken.0.later.items)) }
+    ensures brings { IfOk result (IsBrought L.gives client.now.options.now.names sticky) }
+    ensures refused { IfErr result HasItsStatus }
 {
     let (id, poll) = client.ask_workflow(sticky)?;
     match poll {
@@ -169,6 +202,8 @@ fn open_activity<L: Connection>(
     ensures task { IfOk result (OnTask (λ taken. IsActivityOf polled taken.1)) }
     ensures opened { IfOk result (OnTask (λ taken. OpensActivity id polled taken.0 taken.1.name)) }
     ensures later { IfOk result (OnTask (λ taken. taken.0.later.items ≡ [])) }
+    ensures brings { IfOk result IsTask }
+    ensures silent { IfErr result IsSilent }
 {
     let PolledActivity {
         token,
@@ -192,7 +227,8 @@ fn open_activity<L: Connection>(
     Ok(Brought::Task((opened, task)))
 }
 
-/// Polls for activity tasks and reads the result.
+/// Polls for activity tasks and reads the result. One that can't be read is a fault.
+#[tactic(auto, using(crate::proofs::Silent::silent_has_status))]
 fn take_activity<L: Connection>(
     client: &Client<'_, L>,
 ) -> Result<Brought<(OpenTask, ActivityTask)>, AskFault>
@@ -201,6 +237,8 @@ fn take_activity<L: Connection>(
     ensures opened { IfOk result (OnTask (λ taken.
         OpensPolledActivity L.gives client.now.options.now.names taken.0 taken.1)) }
     ensures later { IfOk result (OnTask (λ taken. taken.0.later.items ≡ [])) }
+    ensures brings { IfOk result (IsBroughtActivity L.gives client.now.options.now.names) }
+    ensures refused { IfErr result HasItsStatus }
 {
     let (id, poll) = client.ask_activity()?;
     match poll {

@@ -6,11 +6,11 @@ use wh_client::{Client, Connection};
 use wh_responses::QueryPoll;
 
 /// Passes a query that a poll returned to what answers queries beside the workers, or refuses it if
-/// nothing does.
+/// nothing does. A query that the server gets no answer to times out.
 pub(crate) fn hand_query_on<L: Connection>(client: &Client<'_, L>, query: QueryPoll)
     requires { GivesQuery L.gives query }
 {
     if let Err(query) = client.connection.hand_on(query) {
-        client.refuse_query(&query.token);
+        let _ = client.refuse_query(&query.token);
     }
 }

@@ -2,7 +2,7 @@
 
 ghost use Rattle.std.specs.Prelude.{◌≡◌, Err};
 ghost use Rattle.wh_tasks.specs.Source.{FailsOnly};
-ghost use Rattle.wh_live.specs.Private.Counting.{with_answer, with_failure, with_poll};
+ghost use Rattle.wh_live.specs.Private.Counting.{with_answer, with_failure, with_lost_task, with_poll};
 ghost use Rattle.wh_live.specs.Tallies.{no_counts, sum_of};
 
 use wh_client::Receipt;
@@ -21,7 +21,8 @@ pub struct Tally {
     pub refused: u64,
     /// Calls of the source that failed, including those after the bridge had closed.
     pub failures: u64,
-    /// Calls of the source that failed while the bridge was open.
+    /// Calls of the source that failed while the bridge was open, and tasks that it gave up, since
+    /// their histories could not be fetched.
     pub faults: u64,
 }
 
@@ -70,12 +71,20 @@ impl Tally {
             Receipt::NotFound => self.not_found = self.not_found.saturating_add(1),
             Receipt::Invalid => self.refused = self.refused.saturating_add(1),
             Receipt::Acknowledged
+            | Receipt::Discarded
             | Receipt::Withheld
             | Receipt::Replaced
             | Receipt::Cut
             | Receipt::Lost
             | Receipt::NoMemory => {}
         }
+    }
+
+    /// Counts a task that was given up.
+    pub(crate) fn lose_task(&mut self)
+        ensures { self.new ≡ with_lost_task self.old }
+    {
+        self.faults = self.faults.saturating_add(1);
     }
 
     /// Counts a failed call, and returns the error of the source.

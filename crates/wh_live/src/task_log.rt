@@ -11,6 +11,7 @@ use wh_tester::Shown;
 fn outcome_words(answered: &'static str, receipt: Receipt) -> &'static str {
     match receipt {
         Receipt::Acknowledged => answered,
+        Receipt::Discarded => "discarded",
         Receipt::Replaced => "failed",
         Receipt::Withheld => "failed again, not sent",
         Receipt::NotFound => "over before its answer",

@@ -87,4 +87,7 @@ pub(crate) enum Brought<T> {
     Empty,
     /// Something other than a task to be delivered, which has been dealt with.
     Settled,
+    /// A task that is given up, since its history could not be fetched or read: what is to be
+    /// reported of it.
+    Lost(Result<String, AllocError>),
 }

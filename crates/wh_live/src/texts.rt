@@ -1,7 +1,8 @@
 //! Describes faults in words.
 
+use crate::tasks::OpenTask;
 use std::alloc::{AllocError, Global};
-use wh_client::AskFault;
+use wh_client::{AskFault, PollEnd};
 use wh_commands::RequestFault;
 use wh_json::ReadFault;
 use wh_replay::Fault;
@@ -18,6 +19,31 @@ pub(crate) fn fault_text(alloc: Global, fault: &AskFault) -> Result<String, Allo
         AskFault::History(fault) => history_text(alloc, fault),
         AskFault::OutOfMemory => String::from_str(alloc, "out of memory"),
     }
+}
+
+/// Describes why a poll failed, and what follows if no later one can succeed.
+pub(crate) fn poll_text(
+    alloc: Global,
+    fault: &AskFault,
+    end: PollEnd,
+) -> Result<String, AllocError> {
+    let text = fault_text(alloc, fault)?;
+    match (end, fault) {
+        (PollEnd::Never, AskFault::Refused { .. }) => format!(in alloc;
+            "{text}: no more tasks are polled for; the program ends, and is to be started again"
+        ),
+        _ => Ok(text),
+    }
+}
+
+/// Describes why the history of a task has no usable result, with the run of the task.
+pub(crate) fn lost_text(
+    alloc: Global,
+    task: &OpenTask,
+    fault: &AskFault,
+) -> Result<String, AllocError> {
+    let text = fault_text(alloc, fault)?;
+    task.said(alloc, text.as_str())
 }
 
 /// Describes the error of a refused call.

@@ -6,7 +6,7 @@ ghost use Rattle.wh_machines.specs.Private.Jumps.{jump_at, back_by, IsShort};
 use wh_events::EventNo;
 
 /// A jump from a thing back to an earlier one of its kind and id.
-#[derive(Clone, Copy, Debug)]
+#[derive(Clone, Copy)]
 pub(crate) struct Jump {
     /// The number of that earlier thing.
     pub(crate) to: Option<EventNo>,

@@ -12,7 +12,7 @@ use wh_events::{EventNo, OutOfMemory, Thing};
 
 /// The last thing that was opened under each id, for the kinds whose open things have different
 /// ids.
-#[derive(Debug, Drop)]
+#[derive(Drop)]
 pub(crate) struct Names {
     /// The last activity under each id.
     pub(crate) activities: BTreeMap<String, EventNo>,

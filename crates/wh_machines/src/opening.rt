@@ -7,7 +7,7 @@ ghost use Rattle.wh_machines.specs.Private.Openings.{status_up_to, up_to};
 use wh_events::{Effect, EventNo, Status};
 
 /// A thing that an event opened, and the numbers of the first events that changed it.
-#[derive(Clone, Copy, Debug)]
+#[derive(Clone, Copy)]
 pub(crate) struct Opening {
     /// The number of the event that opened the thing.
     pub(crate) number: EventNo,

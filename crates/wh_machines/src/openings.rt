@@ -10,7 +10,7 @@ use std::collections::BTreeMap;
 use wh_events::{Effect, EventNo, OutOfMemory};
 
 /// The things that the events opened. Each is found by the number of its event.
-#[derive(Debug, Drop)]
+#[derive(Drop)]
 pub(crate) struct Openings {
     /// The things, each under a key.
     pub(crate) entries: Slab<Opening>,

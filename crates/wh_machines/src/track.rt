@@ -28,7 +28,7 @@ use wh_events::{
 /// The events of a run, each in place after those before it, and tables of what they opened (the
 /// kinds of events: <https://docs.temporal.io/references/events>). Contracts see the list of the
 /// events, and each look-up is its definition over that list.
-#[derive(Debug, Drop)]
+#[derive(Drop)]
 pub struct Track {
     events: Vec<Event>,
     over: bool,

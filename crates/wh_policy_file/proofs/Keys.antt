@@ -1,12 +1,10 @@
 -- The keys and the entries of a map are those of its members.
-use Rattle.std.proofs.Common.{◌≡◌, ℕ, List, [], ◌∷◌, ◌++◌, Bool, true, String, Global, string_bytes, append_assoc, subst, refl}
+use Rattle.std.proofs.Common.{◌≡◌, ℕ, List, [], ◌∷◌, Bool, true, String, Global, string_bytes}
 use Rattle.std.specs.List.{AllByRecursion}
 use Rattle.std.specs.Map.{keys_of}
-use Rattle.toml.specs.Data.{Data, Items, Members, no_members, member}
 use Rattle.toml.specs.View.{members_view}
 use Rattle.toml.proofs.Views.{Entry}
-use Rattle.wh_policies.specs.declared.table.PolicyRow.{PolicyRow}
-use Rattle.wh_policy_file.specs.Tables.{AllKnown, Gives, IsRow, AreRows}
+use Rattle.wh_policy_file.specs.Tables.{AllKnown}
 
 -- each of the keys is known
 abbrev pub AreKnown : (List ℕ → Bool) → List (String Global) → Type 0

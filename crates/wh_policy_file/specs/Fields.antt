@@ -1,5 +1,5 @@
 -- The values of a table's keys.
-use Rattle.std.specs.Prelude.{◌≡◌, ℕ, ℤ, pos, negsuc, List, Bool, nat_le, ◌&&◌, Option, Some, None, option_and_then, if◌then◌else◌}
+use Rattle.std.specs.Prelude.{◌≡◌, ◌≢◌, ℕ, ℤ, pos, negsuc, List, [], Bool, nat_le, ◌&&◌, Option, Some, None, option_and_then, if◌then◌else◌}
 use Rattle.toml.specs.Data.{Data, Members, table, as_bool, as_integer, as_str}
 
 -- a number that is not below zero
@@ -34,6 +34,11 @@ GivesTruth otherwise (Some value) truth = as_bool value ≡ Some truth
 abbrev pub GivesText : Option (List ℕ) → Option Data → Option (List ℕ) → Type 0
 GivesText otherwise None text = text ≡ otherwise
 GivesText otherwise (Some value) text = (t : List ℕ) × (text ≡ Some t) × (as_str value ≡ Some t)
+
+-- the name of a Task Queue is a text that is not empty
+abbrev pub GivesQueue : Option (List ℕ) → Option Data → Option (List ℕ) → Type 0
+GivesQueue otherwise None queue = queue ≡ otherwise
+GivesQueue otherwise (Some value) queue = (t : List ℕ) × (queue ≡ Some t) × (as_str value ≡ Some t) × (t ≢ [])
 
 -- the value is the table, or there is neither
 abbrev pub HasTable : Option Members → Option Data → Type 0

@@ -1,5 +1,5 @@
 -- How the policies of each kind are read from a table.
-use Rattle.std.specs.Prelude.{◌≡◌, ℕ, List, [], ◌∷◌, Bool, ◌||◌, bytes_eq, codes, Option, Some, None, if◌then◌else◌}
+use Rattle.std.specs.Prelude.{◌≡◌, ℕ, List, Bool, ◌||◌, bytes_eq, codes, Option, Some, None, if◌then◌else◌}
 use Rattle.toml.specs.Data.{Data, Members, as_str, get_member}
 use Rattle.wh_policies.specs.declared.policies.ActivityPolicy.{ActivityPolicy}
 use Rattle.wh_policies.specs.declared.policies.ChildPolicy.{ChildPolicy}
@@ -9,7 +9,7 @@ use Rattle.wh_policies.specs.declared.policies.IdReusePolicy.{IdReusePolicy}
 use Rattle.wh_policies.specs.declared.policies.IdReusePolicy.TheVariants.{AllowDuplicate, AllowDuplicateFailedOnly, RejectDuplicate}
 use Rattle.wh_policies.specs.declared.policies.ParentClosePolicy.{ParentClosePolicy}
 use Rattle.wh_policies.specs.declared.policies.ParentClosePolicy.TheVariants.{Terminate, Abandon, RequestCancel}
-use Rattle.wh_policy_file.specs.Fields.{GivesNumber, GivesSeconds, GivesText, GivesTruth}
+use Rattle.wh_policy_file.specs.Fields.{GivesNumber, GivesQueue, GivesSeconds, GivesText, GivesTruth}
 use Rattle.wh_policy_file.specs.Retries.{GivesRetryAt, GivesRetryIfAny}
 
 abbrev pub knows_activity : List ℕ → Bool
@@ -19,7 +19,7 @@ knows_activity key =
     || (bytes_eq key (codes "heartbeat") || bytes_eq key (codes "retry")))))
 
 pub record GivesActivity (members : Members) (otherwise policy : ActivityPolicy) : Type 0 where
-  pub queue : GivesText otherwise.task_queue (get_member (codes "task_queue") members) policy.task_queue
+  pub queue : GivesQueue otherwise.task_queue (get_member (codes "task_queue") members) policy.task_queue
   pub to_start : GivesSeconds otherwise.schedule_to_start
       (get_member (codes "schedule_to_start") members) policy.schedule_to_start
   pub attempt : GivesNumber 1 4294967295 otherwise.start_to_close
@@ -60,7 +60,7 @@ knows_child key =
     || (bytes_eq key (codes "parent_close") || (bytes_eq key (codes "id_reuse") || bytes_eq key (codes "retry"))))))
 
 pub record GivesChild (members : Members) (otherwise policy : ChildPolicy) : Type 0 where
-  pub queue : GivesText otherwise.task_queue (get_member (codes "task_queue") members) policy.task_queue
+  pub queue : GivesQueue otherwise.task_queue (get_member (codes "task_queue") members) policy.task_queue
   pub execution : GivesSeconds otherwise.execution_timeout
       (get_member (codes "execution_timeout") members) policy.execution_timeout
   pub run : GivesSeconds otherwise.run_timeout (get_member (codes "run_timeout") members) policy.run_timeout
@@ -82,7 +82,7 @@ knows_continuation key =
     || (bytes_eq key (codes "task_timeout") || bytes_eq key (codes "retry")))
 
 pub record GivesContinuation (members : Members) (otherwise policy : ContinuePolicy) : Type 0 where
-  pub queue : GivesText otherwise.task_queue (get_member (codes "task_queue") members) policy.task_queue
+  pub queue : GivesQueue otherwise.task_queue (get_member (codes "task_queue") members) policy.task_queue
   pub run : GivesSeconds otherwise.run_timeout (get_member (codes "run_timeout") members) policy.run_timeout
   pub task : GivesSeconds otherwise.task_timeout (get_member (codes "task_timeout") members) policy.task_timeout
   pub retry : GivesRetryIfAny otherwise.retry (get_member (codes "retry") members) policy.retry

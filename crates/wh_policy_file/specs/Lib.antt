@@ -1,3 +1,4 @@
+pub mod Excesses
 pub mod Fields
 pub mod Tables
 pub mod Retries

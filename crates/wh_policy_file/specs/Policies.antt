@@ -4,6 +4,7 @@ use Rattle.std.specs.Str.{IsUtf8}
 use Rattle.toml.specs.Data.{Members}
 use Rattle.toml.specs.Parse.{parse_document}
 use Rattle.wh_policies.specs.Defaults as plain
+use Rattle.wh_policy_file.specs.Excesses.{AreFree}
 use Rattle.wh_policies.specs.declared.policies.Policies.{Policies}
 use Rattle.wh_policy_file.specs.Kinds.{GivesActivity, GivesChild, GivesContinuation, GivesFailure}
 use Rattle.wh_policy_file.specs.Tables.{AllKnown, GivesTable}
@@ -29,13 +30,14 @@ pub record GivesPolicies (document : Members) (otherwise policies : Policies) : 
   pub continued : GivesTable GivesContinuation (codes "continuations") (codes "continuation")
       otherwise.continued.otherwise document policies.continued
 
--- the text is TOML with known tables, from which these policies are read; by default an attempt of an activity has
--- these seconds, and an activity these attempts
+-- the text is TOML with known tables, from which these policies are read, and no time of them is above one that limits
+-- it; by default an attempt of an activity has these seconds, and an activity these attempts
 pub record IsRead (seconds attempts : ℕ) (text : List ℕ) (policies : Policies) : Type 0 where
   pub document : Members
   pub parsed : parse_document text ≡ Some document
   pub known : AllKnown knows_table document
   pub given : GivesPolicies document (plain.policies seconds attempts) policies
+  pub free : AreFree policies
 
 -- why the text is refused
 abbrev pub IsRefused : List ℕ → PolicyFault → Type 0

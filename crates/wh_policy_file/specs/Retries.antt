@@ -1,5 +1,7 @@
 -- How a retry policy is read from a table.
-use Rattle.std.specs.Prelude.{◌≡◌, ℕ, Float, List, [], ◌∷◌, Bool, ◌||◌, bytes_eq, codes, Option, Some, None, ⊤}
+use Rattle.std.specs.Prelude.{◌≡◌, ℕ, Float, List, [], ◌∷◌, Bool, true, ◌&&◌, ◌||◌, bytes_eq, codes, Option, Some, None, ⊤}
+use Rattle.std.specs.Float.{float_is_finite, float_one}
+use Rattle.std.specs.Float.Ieee.{le}
 use Rattle.toml.specs.Data.{Data, Items, no_items, item, Members, no_members, array, as_float, get_member, string, table}
 use Rattle.wh_policies.specs.declared.policies.RetryPolicy.{RetryPolicy}
 use Rattle.wh_policies.specs.Defaults as plain
@@ -16,10 +18,14 @@ GivesTypes otherwise None types = types ≡ otherwise
 GivesTypes otherwise (Some (array items)) types = AreTexts items types
 GivesTypes otherwise (Some _) types = ⊥
 
+-- a finite number of at least 1
+abbrev pub is_factor : Float → Bool
+is_factor x = le float_one x && float_is_finite x
+
 abbrev pub GivesCoefficient : Option Float → Option Data → Option Float → Type 0
 GivesCoefficient otherwise None coefficient = coefficient ≡ otherwise
 GivesCoefficient otherwise (Some value) coefficient =
-    (x : Float) × (coefficient ≡ Some x) × (as_float value ≡ Some x)
+    (x : Float) × (coefficient ≡ Some x) × (as_float value ≡ Some x) × (is_factor x ≡ true)
 
 -- the keys of a retry policy
 abbrev pub knows_retry : List ℕ → Bool

@@ -1,5 +1,6 @@
 //! Why a text is no policy file.
 
+use crate::excess::Excess;
 use std::alloc::{AllocError, AllocFailed, Global};
 use wh_events::{OutOfMemory, Text};
 
@@ -31,6 +32,17 @@ pub enum PolicyFault {
         /// The line in which the key's value ends.
         line: u64,
     },
+    /// A time is above another one of its table, which a server refuses or which has no effect
+    /// there: the initial interval of retries above the maximum one, or a Heartbeat Timeout above
+    /// the time of an attempt or of all attempts.
+    Above {
+        /// The key of the time with the keys of its tables before it, separated by points.
+        key: Text,
+        /// The key of the other time.
+        limit: Text,
+        /// The line from which on that is so.
+        line: u64,
+    },
     /// There was no memory. This can replace the policies and every other fault.
     OutOfMemory,
 }
@@ -42,6 +54,8 @@ pub(crate) enum KeyFault {
     Unknown { key: Text },
     /// The value of one of its keys has the wrong type, or is out of range.
     Bad { key: Text },
+    /// The time of one of its keys is above another one.
+    Above { key: Text, limit: Text },
     /// There was no memory. This can replace every other fault.
     OutOfMemory,
 }
@@ -104,6 +118,20 @@ pub(crate) fn bad_value(alloc: Global, key: &str) -> KeyFault {
     }
 }
 
+/// Returns the fault of a time that is above another one.
+pub(crate) fn above(alloc: Global, excess: Excess) -> KeyFault {
+    let Ok(key) = String::from_str(alloc, excess.time()) else {
+        return KeyFault::OutOfMemory;
+    };
+    match String::from_str(alloc, excess.limit()) {
+        Ok(limit) => KeyFault::Above {
+            key: Text::new(key),
+            limit: Text::new(limit),
+        },
+        Err(_) => KeyFault::OutOfMemory,
+    }
+}
+
 /// Adds the key of a table to the fault of one of the table's keys.
 pub(crate) fn within(alloc: Global, table: &str, fault: KeyFault) -> KeyFault {
     match fault {
@@ -113,6 +141,10 @@ pub(crate) fn within(alloc: Global, table: &str, fault: KeyFault) -> KeyFault {
         },
         KeyFault::Bad { key } => match below(alloc, table, key.get()) {
             Ok(key) => KeyFault::Bad { key },
+            Err(_) => KeyFault::OutOfMemory,
+        },
+        KeyFault::Above { key, limit } => match below(alloc, table, key.get()) {
+            Ok(key) => KeyFault::Above { key, limit },
             Err(_) => KeyFault::OutOfMemory,
         },
         KeyFault::OutOfMemory => KeyFault::OutOfMemory,

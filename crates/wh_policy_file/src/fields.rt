@@ -1,10 +1,10 @@
 //! Reads the values of a table's keys.
 
-ghost use Rattle.std.specs.Prelude.{◌≡◌, IfOk, IfSome, IfNone, false, map, option_map};
+ghost use Rattle.std.specs.Prelude.{◌≡◌, IfOk, IfSome, IfNone, false, codes, map, option_map};
 ghost use Rattle.toml.specs.Data.{as_str, get_member};
 ghost use Rattle.toml.specs.View.{view, table_view};
-ghost use Rattle.wh_policy_file.specs.Fields.{GivesNumber, GivesSeconds, GivesText, GivesTruth, HasTable};
-ghost use Rattle.wh_policy_file.specs.Fields.{number_in, seconds_in};
+ghost use Rattle.wh_policy_file.specs.Fields.{GivesNumber, GivesQueue, GivesSeconds, GivesText, GivesTruth};
+ghost use Rattle.wh_policy_file.specs.Fields.{HasTable, number_in, seconds_in};
 
 use crate::fault::{KeyFault, bad_value};
 use std::alloc::Global;
@@ -122,6 +122,24 @@ pub(crate) fn text_at(
     match text_in(value) {
         Some(text) => Ok(Some(Text::new(String::from_str(alloc, text)?))),
         None => Err(bad_value(alloc, key)),
+    }
+}
+
+/// Returns the Task Queue of the table, or `otherwise` if the table does not have the key. `Bad` if
+/// the value is not a string, or is empty: a server refuses an activity with such a queue.
+pub(crate) fn queue_at(
+    alloc: Global,
+    table: &Table,
+    otherwise: &Option<Text>,
+) -> Result<Option<Text>, KeyFault>
+    ensures { IfOk result (GivesQueue otherwise.now (get_member (codes "task_queue") (table_view table.now))) }
+{
+    let Some(value) = value_at(table, "task_queue") else {
+        return copy_of(otherwise);
+    };
+    match text_in(value) {
+        Some(text) if !text.is_empty() => Ok(Some(Text::new(String::from_str(alloc, text)?))),
+        _ => Err(bad_value(alloc, "task_queue")),
     }
 }
 

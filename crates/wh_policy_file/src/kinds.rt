@@ -6,7 +6,7 @@ ghost use Rattle.toml.specs.View.{table_view};
 ghost use Rattle.wh_policy_file.specs.Kinds.{GivesClose, GivesReuse, close_named, reuse_named};
 
 use crate::fault::{KeyFault, bad_value};
-use crate::fields::{number_at, seconds_at, text_at, text_in, truth_at, value_at};
+use crate::fields::{number_at, queue_at, seconds_at, text_at, text_in, truth_at, value_at};
 use crate::reading::FromTable;
 use crate::retries::{retry_at, retry_if_any};
 use std::alloc::Global;
@@ -57,7 +57,7 @@ impl FromTable for ActivityPolicy {
             otherwise.schedule_to_close,
         )?;
         let heartbeat = seconds_at(alloc, table, "heartbeat", otherwise.heartbeat)?;
-        let task_queue = text_at(alloc, table, "task_queue", &otherwise.task_queue)?;
+        let task_queue = queue_at(alloc, table, &otherwise.task_queue)?;
         let retry = retry_at(alloc, table, &otherwise.retry)?;
         Ok(ActivityPolicy {
             task_queue,
@@ -166,7 +166,7 @@ impl FromTable for ChildPolicy {
         let task = seconds_at(alloc, table, "task_timeout", otherwise.task_timeout)?;
         let parent_close = close_at(alloc, table, otherwise.parent_close)?;
         let id_reuse = reuse_at(alloc, table, otherwise.id_reuse)?;
-        let task_queue = text_at(alloc, table, "task_queue", &otherwise.task_queue)?;
+        let task_queue = queue_at(alloc, table, &otherwise.task_queue)?;
         let retry = retry_if_any(alloc, table, &otherwise.retry)?;
         Ok(ChildPolicy {
             task_queue,
@@ -223,7 +223,7 @@ impl FromTable for ContinuePolicy {
     ) -> Result<ContinuePolicy, KeyFault> {
         let run = seconds_at(alloc, table, "run_timeout", otherwise.run_timeout)?;
         let task = seconds_at(alloc, table, "task_timeout", otherwise.task_timeout)?;
-        let task_queue = text_at(alloc, table, "task_queue", &otherwise.task_queue)?;
+        let task_queue = queue_at(alloc, table, &otherwise.task_queue)?;
         let retry = retry_if_any(alloc, table, &otherwise.retry)?;
         Ok(ContinuePolicy {
             task_queue,

@@ -4,7 +4,7 @@ ghost use Rattle.std.specs.Prelude.{◌≡◌, IfOk, IfSome, None, Some, codes};
 ghost use Rattle.toml.specs.Data.{as_str, get_member};
 ghost use Rattle.toml.specs.View.{array_view, table_view, view};
 ghost use Rattle.wh_policy_file.specs.Retries.{AreTexts, GivesCoefficient, GivesRetry, GivesRetryAt, GivesTypes};
-ghost use Rattle.wh_policy_file.specs.Retries.{GivesRetryIfAny};
+ghost use Rattle.wh_policy_file.specs.Retries.{GivesRetryIfAny, is_factor};
 
 use crate::fault::{KeyFault, bad_value, within};
 use crate::fields::{number_at, seconds_at, table_at, value_at};
@@ -14,6 +14,16 @@ use toml::value::Array;
 use toml::{Table, Value};
 use wh_events::{Items, OutOfMemory, Text};
 use wh_policies::RetryPolicy;
+
+/// The least factor by which intervals may grow.
+const LEAST_FACTOR: f64 = 1.0;
+
+/// Returns whether intervals may grow by the factor: it is a finite number of at least 1.
+fn is_factor(factor: f64) -> bool
+    ensures { result ≡ is_factor factor }
+{
+    factor >= LEAST_FACTOR && factor.is_finite()
+}
 
 /// Reads the factor by which intervals grow, or returns `otherwise` if the table does not have the
 /// key. `Bad` if it is not a finite number of at least 1.
@@ -29,14 +39,8 @@ fn coefficient_at(
         return Ok(otherwise);
     };
     match value.as_float() {
-        Some(factor) => {
-            if factor >= 1.0 && factor.is_finite() {
-                Ok(Some(factor))
-            } else {
-                Err(bad_value(alloc, "backoff_coefficient"))
-            }
-        }
-        None => Err(bad_value(alloc, "backoff_coefficient")),
+        Some(factor) if is_factor(factor) => Ok(Some(factor)),
+        _ => Err(bad_value(alloc, "backoff_coefficient")),
     }
 }
 

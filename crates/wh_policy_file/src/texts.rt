@@ -5,11 +5,13 @@ ghost use Rattle.std.specs.Str.{IsUtf8};
 ghost use Rattle.toml.specs.Errors.{IsMemory, IsWithin};
 ghost use Rattle.toml.specs.Parse.{parse_document};
 ghost use Rattle.toml.specs.View.{table_view};
+ghost use Rattle.wh_policy_file.specs.Excesses.{AreFree};
 ghost use Rattle.wh_policy_file.specs.Lines.{line_at};
-ghost use Rattle.wh_policy_file.specs.Policies.{IsRead, IsRefused};
+ghost use Rattle.wh_policy_file.specs.Policies.{GivesPolicies, IsRead, IsRefused, knows_table};
+ghost use Rattle.wh_policy_file.specs.Tables.{AllKnown};
 
 use crate::fault::{KeyFault, PolicyFault};
-use crate::reading::given;
+use crate::judging::{policies_in, stays};
 use std::alloc::Global;
 use toml::Table;
 use wh_events::Text;
@@ -79,7 +81,7 @@ fn fault_in(alloc: Global, bytes: &[u8], plain: &Policies) -> Option<KeyFault> {
     let Ok(document) = toml::table_from_str(alloc, text_of(bytes)?) else {
         return None;
     };
-    match given(alloc, &document, plain) {
+    match policies_in(alloc, &document, plain) {
         Ok(policies) => {
             drop::<Policies>(policies);
             None
@@ -95,12 +97,14 @@ fn in_line(fault: KeyFault, line: u64) -> PolicyFault
     match fault {
         KeyFault::Unknown { key } => PolicyFault::UnknownKey { key, line },
         KeyFault::Bad { key } => PolicyFault::BadValue { key, line },
+        KeyFault::Above { key, limit } => PolicyFault::Above { key, limit, line },
         KeyFault::OutOfMemory => PolicyFault::OutOfMemory,
     }
 }
 
 /// Returns the first fault of a text's keys: that of the shortest run of lines from the start that
-/// is TOML and has one. If no such run has one, it is `whole`, the fault of the whole text.
+/// is TOML and has one of the whole text. If no such run has one, it is `whole`, the fault of the
+/// whole text.
 fn first_fault(alloc: Global, bytes: &[u8], plain: &Policies, whole: KeyFault) -> PolicyFault
     ensures { (text : List ℕ) → IsRefused text result }
 {
@@ -108,12 +112,33 @@ fn first_fault(alloc: Global, bytes: &[u8], plain: &Policies, whole: KeyFault) -
     for (index, byte) in bytes.iter().enumerate() {
         if *byte == b'\n' {
             if let Some(fault) = fault_in(alloc, &bytes[..index + 1], plain) {
-                return in_line(fault, line);
+                if stays(&fault, &whole) {
+                    return in_line(fault, line);
+                }
             }
             line = u64::saturating_add(line, 1);
         }
     }
     in_line(whole, line)
+}
+
+/// Reads policies with these defaults from the document of a text and judges them, or returns the
+/// first fault of its keys.
+fn policies_of_text(
+    alloc: Global,
+    document: &Table,
+    bytes: &[u8],
+    plain: &Policies,
+) -> Result<Policies, PolicyFault>
+    ensures known { IfOk result (λ _. AllKnown knows_table (table_view document.now)) }
+    ensures given { IfOk result (GivesPolicies (table_view document.now) plain.now) }
+    ensures free { IfOk result AreFree }
+    ensures refused { (text : List ℕ) → IfErr result (IsRefused text) }
+{
+    match policies_in(alloc, document, plain) {
+        Ok(policies) => Ok(policies),
+        Err(fault) => Err(first_fault(alloc, bytes, plain, fault)),
+    }
 }
 
 /// Reads policies from a text in TOML 1.1. Unless it says otherwise, each activity has this
@@ -137,8 +162,5 @@ pub fn read_policies(
     };
     let document = document_of(alloc, text)?;
     let plain = Policies::plain(alloc, start_to_close, attempts);
-    match given(alloc, &document, &plain) {
-        Ok(policies) => Ok(policies),
-        Err(fault) => Err(first_fault(alloc, bytes, &plain, fault)),
-    }
+    policies_of_text(alloc, &document, bytes, &plain)
 }

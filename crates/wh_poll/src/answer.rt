@@ -4,7 +4,8 @@ ghost use Rattle.wh_tasks.specs.Source.{KeepsSource, SameMay};
 ghost use Rattle.wh_tasks.specs.Tasks.{IsAnswer, HasAnswer, FailsOnlySource};
 ghost use Rattle.wh_tasks.specs.declared.source.RunUse.{RunUse};
 ghost use Rattle.wh_poll.specs.Serve.{outcome_of, activity_outcome};
-ghost use Rattle.wh_poll.specs.Private.Serve.{held_by, outcome_if_sent, Sends, SendsAnswer, SendsActivity};
+ghost use Rattle.wh_poll.specs.Private.Serve.{held_by, outcome_if_sent, RunsOnce, Sends, SendsAnswer, SendsActivity};
+ghost use Rattle.wh_poll.specs.Private.Serve.{Shows};
 
 use std::alloc::Global;
 use wh_events::{Event, OutOfMemory};
@@ -111,8 +112,9 @@ fn not_answered<W: Workflow>(fault: StepFault) -> Answered<W>
     }
 }
 
-/// Sends the answer to a workflow task that was replayed in this number of steps. If there is no
-/// memory for the answer, the source decides what becomes of a run without an answer.
+/// Sends the answer to a workflow task that was replayed in this number of steps, with the events of
+/// the run that replay returned. If there is no memory for the answer, the source decides what
+/// becomes of a run without an answer.
 fn send_answer<W: Workflow, S: TaskSource>(
     alloc: Global,
     name: TaskName,
@@ -123,6 +125,8 @@ fn send_answer<W: Workflow, S: TaskSource>(
 ) -> TaskEnd
     requires { HasAnswer run.now fault }
     ensures sends { SendsAnswer run.now fault name (S.answers source.old) (S.answers source.new) result.outcome }
+    ensures shows { Shows (λ answer events. S.hears source.old name answer events steps)
+        run.now fault source.new result.outcome }
     ensures run { result.run ≡ RunUse.Cache → S.caches source.new name }
     ensures failures { FailsOnlySource result.outcome (S.failures source.old) (S.failures source.new) }
     ensures keeps { KeepsSource S.delivers S.fetches S.comes_from source.old source.new }
@@ -189,13 +193,14 @@ fn outcome_of(answer: &Answer) -> Outcome
     }
 }
 
-/// Runs an activity task, and sends the handler's answer.
+/// Runs an activity task once, and sends the handler's answer.
 pub(crate) fn answer_by_handler<S: TaskSource, A: ActivityHandler>(
     task: &ActivityTask,
     source: &mut S,
     handler: &mut A,
 ) -> Result<Outcome, StepFault>
     ensures sends { SendsActivity (A.may handler.old) task.now (S.answers source.old) (S.answers source.new) result }
+    ensures once { RunsOnce (A.runs handler.old task.now) handler.new result }
     ensures failures { FailsOnlySource result (S.failures source.old) (S.failures source.new) }
     ensures keeps { KeepsSource S.delivers S.fetches S.comes_from source.old source.new }
     ensures may { SameMay (A.may handler.old) (A.may handler.new) }

@@ -82,7 +82,11 @@ fn outcome_by(
 {
     match promise {
         None => Ok(Outcome::NoPromise),
-        Some(promise) => decided(alloc, table, &promise),
+        Some(promise) => {
+            let outcome = decided(alloc, table, &promise);
+            drop(promise);
+            outcome
+        }
     }
 }
 

@@ -1,10 +1,10 @@
 -- The answers to queries of live runs.
-use Rattle.std.specs.Prelude.{◌≡◌, ◌⊎◌, ℕ, List, codes, Option, Some, None, Result, Ok, Err, length}
+use Rattle.std.specs.Prelude.{◌≡◌, ◌⊎◌, ℕ, Bool, true, List, codes, Option, Some, None, Result, Ok, Err, length}
 use Rattle.std.specs.Map.{lookup}
 use Rattle.serde_json.specs.Data.{Data}
 use Rattle.wh_client.specs.Calls.{Gives}
 use Rattle.wh_client.specs.Histories.{HasAllMembers, IsWhole, ReadsEvents}
-use Rattle.wh_client.specs.Requests.{IsRequest}
+use Rattle.wh_client.specs.Requests.{IsAnswered, IsRequest}
 use Rattle.wh_client.specs.declared.requests.Request.{Request}
 use Rattle.wh_commands.specs.declared.names.WorkerNames.{WorkerNames}
 use Rattle.wh_events.specs.declared.event.Event.{Event}
@@ -14,11 +14,13 @@ use Rattle.wh_host.specs.Machine.{HostView, IsHost}
 use Rattle.wh_query.specs.Queries.{query_at}
 use Rattle.wh_query.specs.Completed.{completed_part}
 use Rattle.wh_query_messages.specs.Answers.{query_completed}
+use Rattle.wh_query_messages.specs.Metadata.{metadata_asked, metadata_result}
 use Rattle.wh_query_messages.specs.Polled.{Asked, query_in}
+use Rattle.wh_queryable.specs.Definitions.{Definitions}
 use Rattle.wh_queryable.specs.Queries.{Queries}
 use Rattle.wh_queryable.specs.declared.queryable.QueryResult.{QueryResult}
 use Rattle.wh_queryable.specs.declared.queryable.QueryResult.TheVariants.{Failed}
-use Rattle.wh_replay.specs.Runs.{HistoryView}
+use Rattle.wh_replay.specs.Runs.{HistoryView, follows}
 use Rattle.wh_replay.specs.declared.fault.Fault.{Fault}
 use Rattle.wh_tester.specs.Faults.{replay_fault_text}
 use Rattle.wh_workflow.specs.Law.{Program}
@@ -38,10 +40,10 @@ pub record IsFetched (gives : Gives) (names : WorkerNames) (run : RunKey) (event
   pub whole : IsWhole gives names run all
   pub read : ReadsEvents all events
 
--- the history of a run: what its query comes with, or what is fetched
+-- the history of a run: what its query comes with, if that begins with the first event, or what is fetched
 abbrev pub AreRunEvents : Gives → WorkerNames → RunKey → List ℕ → List Data → List Event → Type 0
 AreRunEvents gives names run next_page members events =
-    IsOwn gives names run next_page members events ⊎ IsFetched gives names run events
+    (IsOwn gives names run next_page members events × (follows 0 events ≡ true)) ⊎ IsFetched gives names run events
 
 -- ---- Results
 
@@ -81,8 +83,21 @@ module _ {S : Type 0} (gives : Gives) (names : WorkerNames) (program : Program S
   IsSettled None given = ⊥
   IsSettled (Some asked) given = IsQueryResult asked given
 
+  -- what the workflow type declares, if the query asks for that; else its result
+  abbrev pub IsGiven : Definitions → Option (List ℕ) → Option Asked → QueryResult → Type 0
+  IsGiven definitions (Some kind) asked given = given ≡ metadata_result kind (definitions kind)
+  IsGiven definitions None asked given = IsSettled asked given
+
   -- the request answers the query of the token: with its result, or with a reason why it has none
-  pub record AnswersPoll (token : List ℕ) (result : Data) (request : Request) : Type 0 where
+  pub record AnswersPoll (definitions : Definitions) (token : List ℕ) (result : Data) (request : Request) : Type 0 where
     pub given : QueryResult
-    pub is : IsSettled (query_in token result) given ⊎ ((reason : List ℕ) × (given ≡ Failed reason))
+    pub is : IsGiven definitions (metadata_asked result) (query_in token result) given
+        ⊎ ((reason : List ℕ) × (given ≡ Failed reason))
     pub request_is : IsRequest request (codes "RespondQueryTaskCompleted") (query_completed names token given)
+
+  -- the server returned a result for a request that answers the query of the token
+  pub record AcceptsAnswer (definitions : Definitions) (token : List ℕ) (result : Data) : Type 0 where
+    pub request : Request
+    pub answers : AnswersPoll definitions token result request
+    pub discarded : Bool
+    pub accepted : IsAnswered gives request discarded

@@ -4,8 +4,9 @@ ghost use Rattle.serde_json.specs.View.{view};
 ghost use Rattle.wh_queryable.specs.declared.queryable.QueryResult.{QueryResult};
 ghost use Rattle.wh_replay.specs.Checks.{Answers};
 ghost use Rattle.wh_replay.specs.declared.fault.Fault.{Fault};
+ghost use Rattle.wh_query_messages.specs.Metadata.{metadata_asked};
 ghost use Rattle.wh_query_messages.specs.Polled.{query_in, query_seen};
-ghost use Rattle.wh_query_desk.specs.Answers.{AnswersPoll, IsQueryResult, IsSettled, settled};
+ghost use Rattle.wh_query_desk.specs.Answers.{AnswersPoll, IsGiven, IsQueryResult, IsSettled, settled};
 
 use crate::cached::query_cached;
 use crate::events::run_events;
@@ -17,7 +18,9 @@ use wh_client::{AskFault, Client, Connection, Request};
 use wh_events::{OutOfMemory, Text};
 use wh_host::Host;
 use wh_query::query_fetched;
-use wh_query_messages::{PolledQuery, polled_query, query_completed};
+use wh_query_messages::{
+    PolledQuery, metadata_asked, polled_query, query_completed, query_metadata,
+};
 use wh_queryable::{QueryResult, Queryable};
 use wh_replay::RunFault;
 use wh_responses::QueryPoll;
@@ -74,7 +77,7 @@ fn query_polled<R: Wait, W: Queryable, T: Ledger, C: Ledger, F: Ledger, L: Conne
     query_by_replay::<W, L>(client, polled)
 }
 
-/// Reads a query and returns the answer to it.
+/// Reads a query and returns its result.
 fn query_read<R: Wait, W: Queryable, T: Ledger, C: Ledger, F: Ledger, L: Connection>(
     rt: &R,
     host: &Host<W, T, C, F>,
@@ -91,22 +94,48 @@ fn query_read<R: Wait, W: Queryable, T: Ledger, C: Ledger, F: Ledger, L: Connect
     }
 }
 
+/// Returns what the workflow type declares if a query asks for that, and otherwise its result.
+fn query_given<R: Wait, W: Queryable, T: Ledger, C: Ledger, F: Ledger, L: Connection>(
+    rt: &R,
+    host: &Host<W, T, C, F>,
+    client: &Client<'_, L>,
+    poll: QueryPoll,
+) -> Result<QueryResult, AskFault>
+    ensures { IfOk result (IsGiven L.gives client.now.options.now.names W.program W.queries W.definitions
+        (metadata_asked (view poll.result)) (query_in poll.token (view poll.result))) }
+{
+    let alloc = client.allocator();
+    match metadata_asked(alloc, &poll.result) {
+        Ok(None) => query_read(rt, host, client, poll),
+        Ok(Some(kind)) => {
+            drop(poll);
+            Ok(query_metadata::<W>(alloc, kind.get())?)
+        }
+        Err(OutOfMemory) => {
+            drop(poll);
+            Err(AskFault::OutOfMemory)
+        }
+    }
+}
+
 /// Writes the request that answers a query, with its token: with its result in the state after the
 /// last completed task of its run, from the cached run or by replay of its history (Temporal
-/// documentation, "Queries"); or with the reason why it has no result. The host does not change.
-/// `OutOfMemory` if there was no memory for the request.
+/// documentation, "Queries"); or with the reason why it has no result. A query of the type
+/// `__temporal_workflow_metadata`, which Temporal's Web UI asks, is answered with what the type of
+/// the run's workflow declares, without the run. The host does not change. `OutOfMemory` if there
+/// was no memory for the request.
 pub fn query_answer<R: Wait, W: Queryable, T: Ledger, C: Ledger, F: Ledger, L: Connection>(
     rt: &R,
     host: &Host<W, T, C, F>,
     client: &Client<'_, L>,
     poll: QueryPoll,
 ) -> Result<Request, OutOfMemory>
-    ensures { IfOk result (AnswersPoll L.gives client.now.options.now.names W.program W.queries
+    ensures { IfOk result (AnswersPoll L.gives client.now.options.now.names W.program W.queries W.definitions
         poll.token (view poll.result)) }
 {
     let alloc = client.allocator();
     let token = poll.token.try_copy()?;
-    let given = match query_read(rt, host, client, poll) {
+    let given = match query_given(rt, host, client, poll) {
         Ok(given) => given,
         Err(fault) => QueryResult::Failed(Text::new(reason_of(alloc, &fault)?)),
     };

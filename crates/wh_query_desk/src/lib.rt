@@ -11,5 +11,5 @@ mod reasons;
 
 pub use answering::query_answer;
 pub use cached::query_cached;
-pub use desk::answer_queries;
+pub use desk::{answer_queries, answer_query};
 pub use queue::QueryQueue;

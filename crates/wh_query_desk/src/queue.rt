@@ -1,4 +1,6 @@
 //! A queue of queries, from the workers to the desk beside them.
+ghost use Rattle.std.specs.Prelude.{◌≡◌, ◌<◌, ◌++◌, ◌∷◌, [], IfErr, IsErr, OnErr, OnOk};
+ghost use Rattle.std.specs.VecDeque.{deque_len};
 
 use std::alloc::Global;
 use std::collections::VecDeque;
@@ -98,8 +100,16 @@ impl QueryQueue {
 }
 
 impl Waiting {
-    /// Adds a query, or returns it.
-    fn take(&mut self, query: QueryPoll) -> Result<(), QueryPoll> {
+    /// Adds a query behind the others, or returns it: if nothing answers queries any more, if 1,000
+    /// wait already, and if there is no memory for it.
+    fn take(&mut self, query: QueryPoll) -> Result<(), QueryPoll>
+        ensures added { OnOk result (self.new.queries.items ≡ self.old.queries.items ++ query ∷ []) }
+        ensures refused { OnErr result (self.new.queries.items ≡ self.old.queries.items) }
+        ensures returned { IfErr result (λ own. own ≡ query) }
+        ensures ended { self.old.stage ≡ Stage.Ended → IsErr result }
+        ensures room { OnOk result (deque_len self.old.queries < 1000) }
+        ensures stage { self.new.stage ≡ self.old.stage }
+    {
         if matches!(self.stage, Stage::Ended) || self.queries.len() >= MOST_WAITING {
             return Err(query);
         }

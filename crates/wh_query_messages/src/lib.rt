@@ -4,7 +4,9 @@
 
 mod answer;
 pub mod laws;
+mod metadata;
 mod polled;
 
 pub use answer::query_completed;
+pub use metadata::{is_metadata, metadata_asked, query_metadata};
 pub use polled::{PolledQuery, polled_query};

@@ -105,6 +105,11 @@ pub fn query_command<W: Queryable, O: Write>(
     let Ok(queried) = query_file::<W>(alloc, file, query) else {
         return Err(CommandFault::OutOfMemory);
     };
-    write_queried(alloc, &queried, format, writer)?;
-    Ok(queried)
+    match write_queried(alloc, &queried, format, writer) {
+        Ok(()) => Ok(queried),
+        Err(fault) => {
+            drop(queried);
+            Err(fault)
+        }
+    }
 }

@@ -1,5 +1,5 @@
 -- The results of queries.
-use Rattle.std.specs.Prelude.{ℕ, eqb, Bool, List, [], ◌∷◌, ◌++◌, codes, if◌then◌else◌}
+use Rattle.std.specs.Prelude.{ℕ, eqb, Bool, List, [], ◌∷◌, ◌++◌, codes, bytes_eq, if◌then◌else◌}
 use Rattle.std.specs.List.{starts_with}
 use Rattle.wh_events.specs.declared.event.Payload.{Payload}
 use Rattle.wh_workflow.specs.declared.pair.Either.{Either}
@@ -27,9 +27,16 @@ json_result json = Answered (json_payload json ∷ [])
 abbrev pub is_built_in : List ℕ → Bool
 is_built_in query_type = starts_with eqb query_type (codes "__")
 
+-- what there is in place of a stack trace, as a JSON text
+abbrev pub stack_trace : List ℕ
+stack_trace =
+    codes "\"There is no stack trace: this worker runs a workflow as steps of a state, without coroutines.\""
+
 -- the result of a query of such a type
 abbrev pub built_in_query : List ℕ → QueryResult
-built_in_query query_type = Failed (codes "built-in query types are not supported: " ++ query_type)
+built_in_query query_type =
+    if bytes_eq query_type (codes "__stack_trace") then json_result stack_trace
+    else Failed (codes "built-in query types are not supported: " ++ query_type)
 
 module _ {S : Type 0} where
   -- the result of a query in a state: that of the workflow's query handlers, but for the built-in types

@@ -1,5 +1,6 @@
 //! Workflows without query handlers.
 
+use crate::definition::WorkflowDefinition;
 use crate::queryable::{QueryResult, Queryable};
 use crate::results::unknown_query;
 use std::alloc::Global;
@@ -39,6 +40,7 @@ impl<W: Workflow> Workflow for NoQueries<W> {
 }
 
 impl<W: Workflow> Queryable for NoQueries<W> {
+    ghost use Rattle.wh_queryable.specs.Definitions.{no_definitions};
     ghost use Rattle.wh_queryable.specs.Queries.{no_queries};
 
     ghost queries = { no_queries };
@@ -50,5 +52,11 @@ impl<W: Workflow> Queryable for NoQueries<W> {
         _input: &[Payload],
     ) -> Result<QueryResult, OutOfMemory> {
         unknown_query(alloc, query_type, "none")
+    }
+
+    ghost definitions = { no_definitions };
+
+    fn definition(alloc: Global, _kind: &str) -> Result<WorkflowDefinition, OutOfMemory> {
+        Ok(WorkflowDefinition::nothing(alloc))
     }
 }

@@ -2,6 +2,7 @@
 ghost use Rattle.std.specs.Prelude.{◌≡◌, IfOk, false};
 ghost use Rattle.wh_queryable.specs.Queries.{is_built_in, result_in};
 
+use crate::definition::WorkflowDefinition;
 use crate::results::built_in_query;
 use std::alloc::Global;
 use wh_events::{Items, OutOfMemory, Payload, Text};
@@ -39,6 +40,7 @@ impl QueryResult {
 
 /// A workflow with query handlers. `NoQueries` makes one of a workflow that has none.
 pub trait Queryable: Workflow {
+    ghost use Rattle.wh_queryable.specs.Definitions.{Definitions};
     ghost use Rattle.wh_queryable.specs.Queries.{Queries, is_built_in};
 
     /// The results of its query handlers, as a function of the state, the query type and the input.
@@ -54,6 +56,14 @@ pub trait Queryable: Workflow {
     ) -> Result<QueryResult, OutOfMemory>
         requires { is_built_in query_type.now ≡ false }
         ensures { IfOk result (λ given. given ≡ queries state.now query_type.now input.now) };
+
+    /// What each workflow type declares.
+    ghost definitions: { Definitions };
+
+    /// Returns what a workflow type declares, as far as it is known without a run. Temporal's Web UI
+    /// offers these names to its user. Returns `OutOfMemory` if there was no memory for them.
+    fn definition(alloc: Global, kind: &str) -> Result<WorkflowDefinition, OutOfMemory>
+        ensures { IfOk result (λ given. given ≡ definitions kind.now) };
 }
 
 /// Whether the query type is one that Temporal's SDKs reserve, as `__stack_trace`: it begins with
@@ -64,9 +74,10 @@ pub fn is_built_in(query_type: &str) -> bool
     query_type.starts_with("__")
 }
 
-/// Returns the result of a query in a state: that of the workflow's query handlers, but `Failed`
-/// for each type that begins with two underscores. Returns `OutOfMemory` if there was no memory for
-/// it.
+/// Returns the result of a query in a state: that of the workflow's query handlers. A type that
+/// begins with two underscores is never the workflow's own: `__stack_trace` is answered with a
+/// sentence, as a JSON text, and any other is `Failed`. Returns `OutOfMemory` if there was no memory
+/// for it.
 pub fn query_state<W: Queryable>(
     alloc: Global,
     state: &W::State,

@@ -6,11 +6,19 @@ use crate::queryable::QueryResult;
 use std::alloc::Global;
 use wh_events::{Items, OutOfMemory, Payload, Text};
 
-/// Returns the result of a query of a type that is built into Temporal's SDKs, or `OutOfMemory` if
-/// there was no memory for its text.
+/// The answer to the query `__stack_trace`, a JSON text.
+const STACK_TRACE: &str =
+    "\"There is no stack trace: this worker runs a workflow as steps of a state, without coroutines.\"";
+
+/// Returns the result of a query of a type that is built into Temporal's SDKs: that of
+/// `__stack_trace` is a sentence, and any other has none here. `OutOfMemory` if there was no memory
+/// for its text.
 pub(crate) fn built_in_query(alloc: Global, query_type: &str) -> Result<QueryResult, OutOfMemory>
     ensures { IfOk result (λ given. given ≡ built_in_query query_type.now) }
 {
+    if query_type == "__stack_trace" {
+        return json_result(alloc, String::from_str(alloc, STACK_TRACE)?);
+    }
     let text = format!(in alloc; "built-in query types are not supported: {query_type}")?;
     Ok(QueryResult::Failed(Text::new(text)))
 }

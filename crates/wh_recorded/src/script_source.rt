@@ -22,8 +22,8 @@ use wh_events::{Event, EventKind, Items, OutOfMemory, RunKey, Text};
 use wh_replay::Answer;
 use wh_slots::TaskName;
 use wh_tasks::{
-    ActivityAnswer, ActivityTask, Polled, RunUse, Sent, SourceFault, TaskSource, WorkflowTask,
-    last_number,
+    Acceptance, ActivityAnswer, ActivityTask, Polled, RunUse, Sent, SourceFault, TaskSource,
+    WorkflowTask, last_number,
 };
 
 /// The run id of each history's key.
@@ -510,6 +510,19 @@ impl TaskSource for ScriptSource {
             return Err(SourceFault::OutOfMemory);
         };
         self.answers.store(name, Sent::Workflow(copy))
+    }
+
+    fn answer_replayed(
+        &mut self,
+        name: TaskName,
+        answer: &Answer,
+        _events: &[Event],
+        _steps: u64,
+    ) -> Acceptance {
+        Acceptance {
+            sent: self.answer_workflow(name, answer),
+            run: RunUse::Cache,
+        }
     }
 
     fn without_answer(&self) -> RunUse

@@ -15,10 +15,10 @@ use Rattle.wh_json.specs.declared.fault.ReadFault.TheVariants.{BadJson, MissingF
 use Rattle.wh_replay.specs.Checks.{checked}
 use Rattle.wh_replay.specs.declared.fault.Checked.{Checked}
 use Rattle.wh_replay.specs.declared.fault.Fault.{Fault}
-use Rattle.wh_tester.proofs.Reading.{read_within}
-use Rattle.wh_tester.specs.Verdicts.{IsVerdict, judged, read_and_judged, verdict_on}
-use Rattle.wh_tester.specs.declared.line.Verdict.{Verdict}
-use Rattle.wh_tester.specs.declared.line.Verdict.TheVariants.{Faulty, OutOfMemory, Unreadable}
+use Rattle.wh_verdict.proofs.Reading.{read_within}
+use Rattle.wh_verdict.specs.Verdicts.{IsVerdict, judged, read_and_judged, verdict_on}
+use Rattle.wh_verdict.specs.declared.line.Verdict.{Verdict}
+use Rattle.wh_verdict.specs.declared.line.Verdict.TheVariants.{Faulty, OutOfMemory, Unreadable}
 use Rattle.wh_workflow.specs.Law.{Program}
 use Rattle.wh_report.specs.declared.records.Record.{Record}
 use Rattle.wh_report.specs.Records.{IsRecordOf}

@@ -7,11 +7,11 @@ use Rattle.std.proofs.lemmas.List.{length-map}
 use Rattle.std.proofs.lemmas.List.Folds.{flat_map-map, fold-map, list_all-map}
 use Rattle.wh_tester.specs.Json.{following, open_line}
 use Rattle.wh_tester.specs.Report.{good_count, line_text, report, totals_line}
-use Rattle.wh_tester.specs.declared.line.Line.{Line}
+use Rattle.wh_verdict.specs.declared.line.Line.{Line}
 use Rattle.wh_report.specs.declared.records.Record.{Record}
 use Rattle.wh_fault_details.specs.Texts.{detail_members}
-use Rattle.wh_explain_report.proofs.Lines.{open_and_closed as closed}
-use Rattle.wh_explain_report.specs.Json.{difference_members}
+use Rattle.wh_phrases.proofs.Lines.{open_and_closed as closed}
+use Rattle.wh_phrases.specs.Json.{difference_members}
 use Rattle.wh_values.specs.Texts.{value_object}
 use Rattle.wh_values.specs.declared.comparing.OtherValue.{OtherValue}
 use Rattle.wh_report.specs.Reports.{cause_members, json_record, lines_of, members_after, object_after, warning_members}

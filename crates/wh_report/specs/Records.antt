@@ -2,9 +2,9 @@
 use Rattle.std.specs.Prelude.{◌≡◌, ◌≢◌, ℕ, Bool, true, false, List, [], IfSome}
 use Rattle.std.specs.List.{AllZip}
 use Rattle.wh_workflow.specs.Law.{Program}
-use Rattle.wh_tester.specs.declared.line.Verdict.{Verdict}
-use Rattle.wh_tester.specs.declared.line.Verdict.TheVariants.{OutOfMemory}
-use Rattle.wh_tester.specs.Verdicts.{IsLineOf}
+use Rattle.wh_verdict.specs.declared.line.Verdict.{Verdict}
+use Rattle.wh_verdict.specs.declared.line.Verdict.TheVariants.{OutOfMemory}
+use Rattle.wh_verdict.specs.Verdicts.{IsLineOf}
 use Rattle.wh_explain.specs.Differences.{IsDifferenceIn}
 use Rattle.wh_fault_details.specs.Details.{detail_of}
 use Rattle.wh_file_faults.specs.Faults.{File, IsCauseIn, IsCauseOf}

@@ -3,8 +3,8 @@ use Rattle.std.specs.Prelude.{ℕ, List, [], ◌∷◌, ◌++◌, map, codes, de
 use Rattle.std.specs.List.{flat_map, list_any}
 use Rattle.wh_tester.specs.Json.{json_totals, plain_member, text_member}
 use Rattle.wh_tester.specs.Report.{all_good, report, shown}
-use Rattle.wh_tester.specs.declared.line.Line.{Line}
-use Rattle.wh_explain_report.specs.Json.{difference_members, json_line_with}
+use Rattle.wh_verdict.specs.declared.line.Line.{Line}
+use Rattle.wh_phrases.specs.Json.{difference_members, json_line_with}
 use Rattle.wh_fault_details.specs.Texts.{detail_members}
 use Rattle.wh_file_faults.specs.declared.file_faults.Cause.{Cause}
 use Rattle.wh_file_faults.specs.declared.file_faults.Cause.TheVariants.{NotJson, NoCode}
@@ -50,10 +50,6 @@ lines_of records = map (λ own. own.line) records
 abbrev pub report_as : Format → List Record → List ℕ
 report_as Json records = flat_map json_record records ++ json_totals (lines_of records)
 report_as Text records = report (lines_of records)
-
--- 0 if each file is good, and else 1
-abbrev pub status_of : List Line → ℕ
-status_of lines = if all_good lines then 0 else 1
 
 -- values of a file differ
 abbrev pub some_value : List OtherValue → Bool

@@ -8,7 +8,7 @@ ghost use Rattle.wh_json.specs.Events.{history, longest};
 ghost use Rattle.wh_explain.specs.Differences.{IsDifferenceIn};
 ghost use Rattle.wh_explain.specs.Explaining.{unknown_in};
 ghost use Rattle.wh_report.specs.Records.{AreRecordsOf, AreWarnings, IsRecordOf, IsRecordOfInput};
-ghost use Rattle.wh_tester.specs.Verdicts.{IsVerdict};
+ghost use Rattle.wh_verdict.specs.Verdicts.{IsVerdict};
 
 use rayon::prelude::*;
 use std::alloc::Global;
@@ -18,8 +18,8 @@ use wh_explain::{Finding, Pairing, check_file};
 use wh_fault_details::{FaultDetail, detail_of};
 use wh_file_faults::{Cause, unread_cause};
 use wh_files::InputFault;
-use wh_tester::{Line, Verdict};
 use wh_values::{OtherValue, check_values};
+use wh_verdict::{Line, Verdict};
 use wh_workflow::Workflow;
 
 /// What came of a history file.
@@ -142,6 +142,7 @@ pub fn record_of<W: Workflow>(alloc: Global, strict: bool, file: (String, Vec<u8
         difference,
     } = finding;
     let notes = notes_of::<W>(alloc, unknown, &verdict, bytes.as_slice());
+    drop(bytes);
     let name = Text::new(name);
     match notes {
         Ok((cause, detail)) => Record {
@@ -151,7 +152,12 @@ pub fn record_of<W: Workflow>(alloc: Global, strict: bool, file: (String, Vec<u8
             difference,
             warnings: Items::new(warnings),
         },
-        Err(OutOfMemory) => no_memory(alloc, name),
+        Err(OutOfMemory) => {
+            drop(verdict);
+            drop(difference);
+            drop(warnings);
+            no_memory(alloc, name)
+        }
     }
 }
 

@@ -3,26 +3,27 @@
 ghost use Rattle.std.specs.Prelude.{◌≡◌, ◌≢◌, ◌++◌, ◌∷◌, [], Err, IfOk, OnOk, Some, codes};
 ghost use Rattle.std.specs.List.{flat_map, list_all, list_any};
 ghost use Rattle.std.specs.Io.KnownBytes.{Appends};
-ghost use Rattle.wh_explain_report.specs.Json.{difference_members};
+ghost use Rattle.wh_phrases.specs.Json.{difference_members};
 ghost use Rattle.wh_fault_details.specs.Texts.{detail_members};
 ghost use Rattle.wh_tester.specs.Json.{following};
 ghost use Rattle.wh_values.specs.Texts.{value_object};
 ghost use Rattle.wh_tester.specs.Report.{all_good, good_count, is_good, line_text};
 ghost use Rattle.wh_report.specs.Reports.{cause_members, json_record, lines_of, members_after};
 ghost use Rattle.wh_report.specs.Reports.{object_after};
-ghost use Rattle.wh_report.specs.Reports.{records_status, report_as, some_value, status_of, warning_members};
+ghost use Rattle.wh_report.specs.Reports.{records_status, report_as, some_value, warning_members};
 
 use crate::records::Record;
 use std::io::Write;
 use std::{fmt, io};
 use wh_console::Format;
-use wh_explain_report::DifferenceMembers;
 use wh_fault_details::DetailMembers;
 use wh_file_faults::{Cause, CommandFault, Position};
+use wh_phrases::DifferenceMembers;
 use wh_tester::{
-    EscapedName, Line, is_good, write_json_totals, write_line, write_open_json_line, write_totals,
+    EscapedName, is_good, write_json_totals, write_line, write_open_json_line, write_totals,
 };
 use wh_values::{OtherValue, OtherValueObject};
+use wh_verdict::Line;
 
 /// The members of a cause, each after another one.
 #[derive(Drop)]
@@ -97,13 +98,6 @@ pub fn status_of(records: &[Record]) -> u8
     } else {
         0
     }
-}
-
-/// The status of the report of one file with this line.
-pub fn line_status(line: &Line) -> u8
-    ensures { result ≡ status_of (line.now ∷ []) }
-{
-    if is_good(&line.verdict) { 0 } else { 1 }
 }
 
 /// Writes the lines of files.

@@ -1,5 +1,5 @@
 -- A written answer is read back.
-use Rattle.std.proofs.Common.{◌≡◌, ◌≢◌, ℕ, List, [], ◌∷◌, ◌++◌, length, map, codes, Option, Some, None, option_map, option_and_then, Result, Ok, Err, refl, sym, ap, ◌∙◌, arith, append-nil, append_assoc}
+use Rattle.std.proofs.Common.{◌≡◌, ◌≢◌, ℕ, Bool, true, false, List, [], ◌∷◌, ◌++◌, length, map, codes, Option, Some, None, option_map, option_and_then, Result, Ok, Err, refl, sym, ap, ◌∙◌, arith, append-nil, append_assoc}
 use Rattle.std.specs.Result.{result_ok}
 use Rattle.serde_json.specs.Data.{Data}
 use Rattle.serde_json.specs.Find.{get, as_array}
@@ -15,6 +15,7 @@ use Rattle.wh_requests.specs.declared.request.FailedCause.TheVariants.{Nondeterm
 use Rattle.wh_commands.specs.CarryingOver.{Carried}
 use Rattle.wh_commands.specs.Commands.{written, written_after}
 use Rattle.wh_commands.specs.Outcome.{on_written}
+use Rattle.wh_commands.specs.Policies.{non_retryable}
 use Rattle.wh_requests.specs.Requests.{activity_completed, activity_failed, completed_with, workflow_completed, workflow_failed, cause_name}
 use Rattle.wh_commands.specs.ReadBack.{text_at, payloads_of, command_in, IsSent, HaveBytes, IsHistory}
 use Rattle.wh_requests.specs.Apart.{AreSent}
@@ -153,15 +154,47 @@ results_differ names token other_token outcome other_outcome bytes other_bytes e
       sym (ap result_ok (payloads_back outcome bytes)) ∙ ap (payloads_of (codes "result")) e ∙ ap result_ok (payloads_back other_outcome other_bytes)),
 )
 
+abbrev type_told : Data → Option (List ℕ)
+type_told d = option_and_then (text_at (codes "type")) (option_and_then (get (codes "applicationFailureInfo")) (get (codes "failure") d))
+
+abbrev mark_told : Data → Option Data
+mark_told d = option_and_then (get (codes "nonRetryable")) (option_and_then (get (codes "applicationFailureInfo")) (get (codes "failure") d))
+
+type_back : (names : WorkerNames) (token message : List ℕ) (failure_type : Option (List ℕ)) (retryable : Bool)
+    → type_told (activity_failed names token message failure_type retryable) ≡ failure_type
+type_back names token message None true = refl
+type_back names token message None false = refl
+type_back names token message (Some text) true = refl
+type_back names token message (Some text) false = refl
+
+mark_back : (names : WorkerNames) (token message : List ℕ) (failure_type : Option (List ℕ)) (retryable : Bool)
+    → mark_told (activity_failed names token message failure_type retryable) ≡ non_retryable retryable
+mark_back names token message None true = refl
+mark_back names token message None false = refl
+mark_back names token message (Some text) true = refl
+mark_back names token message (Some text) false = refl
+
+marks_same : (retryable other : Bool) → non_retryable retryable ≡ non_retryable other → retryable ≡ other
+marks_same true true e = refl
+marks_same true false e = cc
+marks_same false true e = cc
+marks_same false false e = refl
+
 pub activity_failures_differ : (names : WorkerNames) (token other_token message other_message : List ℕ)
-    → activity_failed names token message ≡ activity_failed names other_token other_message
-    → (token ≡ other_token) × (message ≡ other_message)
-activity_failures_differ names token other_token message other_message e =
-    (some_same token other_token (ap (text_at (codes "taskToken")) e), some_same message other_message (ap failure_text e))
+    (failure_type other_type : Option (List ℕ)) (retryable other_retryable : Bool)
+    → activity_failed names token message failure_type retryable ≡ activity_failed names other_token other_message other_type other_retryable
+    → (token ≡ other_token) × (message ≡ other_message) × (failure_type ≡ other_type) × (retryable ≡ other_retryable)
+activity_failures_differ names token other_token message other_message failure_type other_type retryable other_retryable e = (
+  some_same token other_token (ap (text_at (codes "taskToken")) e),
+  some_same message other_message (ap failure_text e),
+  sym (type_back names token message failure_type retryable) ∙ ap type_told e ∙ type_back names other_token other_message other_type other_retryable,
+  marks_same retryable other_retryable (
+      sym (mark_back names token message failure_type retryable) ∙ ap mark_told e ∙ mark_back names other_token other_message other_type other_retryable),
+)
 
 nothing_is_something : {A : Type 0} (a : A) → Some a ≡ None → ⊥
 nothing_is_something a e = cc
 
-pub failure_is_no_result : (names : WorkerNames) (token other_token message : List ℕ) (outcome : List Payload)
-    → activity_failed names token message ≢ activity_completed names other_token outcome
-failure_is_no_result names token other_token message outcome e = nothing_is_something message (ap failure_text e)
+pub failure_is_no_result : (names : WorkerNames) (token other_token message : List ℕ) (failure_type : Option (List ℕ)) (retryable : Bool)
+    (outcome : List Payload) → activity_failed names token message failure_type retryable ≢ activity_completed names other_token outcome
+failure_is_no_result names token other_token message failure_type retryable outcome e = nothing_is_something message (ap failure_text e)

@@ -16,7 +16,7 @@ something_is_nothing : {A : Type 0} (a : A) → None ≡ Some a → ⊥
 something_is_nothing a e = cc
 
 pub canceled_apart : CanceledIsApart
-canceled_apart names token other_token reason message outcome = (
+canceled_apart names token other_token reason message failure_type retryable outcome = (
   λ e. something_is_nothing _ (ap (get (codes "failure")) e),
   λ e. something_is_nothing _ (ap (get (codes "result")) e),
 )

@@ -12,11 +12,12 @@ use Rattle.wh_commands.specs.declared.names.WorkerNames.{WorkerNames}
 use Rattle.wh_commands.specs.Commands.{written, written_after}
 use Rattle.wh_commands.specs.Objects.{put_all}
 use Rattle.wh_commands.specs.Options.{◌>>=◌}
+use Rattle.wh_commands.specs.Policies.{info_of}
 use Rattle.wh_commands.specs.Outcome.{on_written}
 use Rattle.wh_commands.specs.ReadBack.{text_at}
 use Rattle.wh_requests.specs.Requests as requests
 use Rattle.wh_requests.specs.Requests.{query_refused}
-use Rattle.wh_requests.specs.ServerReads.{PollsAreRead, EndIsRead, HistoryIsRead, IsHistory, FailuresAreRead, QueryFailedIsRead}
+use Rattle.wh_requests.specs.ServerReads.{PollsAreRead, EndIsRead, HistoryIsRead, IsHistory, FailuresAreRead, IsActivityFailed, QueryFailedIsRead}
 use Rattle.wh_commands.specs.ServerReads.{Fits}
 use Rattle.wh_requests.specs.ServerReads.{IsCompletion, CompletionIsRead, sticky}
 use Rattle.wh_commands.proofs.Reading.{seconds_of-duration}
@@ -43,10 +44,18 @@ history_read = history_with
 
 -- ---- Answers
 
+failure_read : (names : WorkerNames) (token message : List ℕ) (failure_type : Option (List ℕ)) (retryable : Bool)
+    → IsActivityFailed message failure_type retryable (requests.activity_failed names token message failure_type retryable)
+failure_read names token message None true = record { info = info_of None true; told = refl; reason = refl; of_type = refl; final = refl }
+failure_read names token message None false = record { info = info_of None false; told = refl; reason = refl; of_type = refl; final = refl }
+failure_read names token message (Some text) true = record { info = info_of (Some text) true; told = refl; reason = refl; of_type = refl; final = refl }
+failure_read names token message (Some text) false = record { info = info_of (Some text) false; told = refl; reason = refl; of_type = refl; final = refl }
+
 pub failures_read : FailuresAreRead
-failures_read names token message cause outcome = (
+failures_read names token message cause failure_type retryable outcome = (
   record { namespace = refl; identity = refl; task = refl },
   record { namespace = refl; identity = refl; task = refl },
+  failure_read names token message failure_type retryable,
   record { namespace = refl; identity = refl; task = refl },
 )
 

@@ -1,5 +1,5 @@
 -- No two different answers are written alike.
-use Rattle.std.specs.Prelude.{◌≡◌, ◌≢◌, ℕ, List, [], ◌∷◌, Option, Ok, ⊤}
+use Rattle.std.specs.Prelude.{◌≡◌, ◌≢◌, ℕ, Bool, List, [], ◌∷◌, Option, Ok, ⊤}
 use Rattle.serde_json.specs.Data.{Data}
 use Rattle.wh_events.specs.declared.event.Event.{Event}
 use Rattle.wh_events.specs.declared.event.Payload.{Payload}
@@ -43,10 +43,13 @@ ResultsDiffer = (names : WorkerNames) (token other_token : List ℕ) (outcome ot
 -- two failures of activities that are written alike are the same
 abbrev pub ActivityFailuresDiffer : Type 0
 ActivityFailuresDiffer = (names : WorkerNames) (token other_token message other_message : List ℕ)
-    → activity_failed names token message ≡ activity_failed names other_token other_message
-    → (token ≡ other_token) × (message ≡ other_message)
+    (failure_type other_type : Option (List ℕ)) (retryable other_retryable : Bool)
+    → activity_failed names token message failure_type retryable
+    ≡ activity_failed names other_token other_message other_type other_retryable
+    → (token ≡ other_token) × (message ≡ other_message) × (failure_type ≡ other_type) × (retryable ≡ other_retryable)
 
 -- a failure of an activity is never written as a result
 abbrev pub FailureIsNoResult : Type 0
-FailureIsNoResult = (names : WorkerNames) (token other_token message : List ℕ) (outcome : List Payload)
-    → activity_failed names token message ≢ activity_completed names other_token outcome
+FailureIsNoResult = (names : WorkerNames) (token other_token message : List ℕ)
+    (failure_type : Option (List ℕ)) (retryable : Bool) (outcome : List Payload)
+    → activity_failed names token message failure_type retryable ≢ activity_completed names other_token outcome

@@ -1,5 +1,5 @@
 -- Heartbeats of activities, and answers for canceled activities.
-use Rattle.std.specs.Prelude.{◌≡◌, ◌≢◌, ℕ, List, [], ◌∷◌, codes, Some}
+use Rattle.std.specs.Prelude.{◌≡◌, ◌≢◌, ℕ, Bool, List, [], ◌∷◌, codes, Option, Some}
 use Rattle.serde_json.specs.Data.{Data, string, object}
 use Rattle.wh_events.specs.declared.event.Payload.{Payload}
 use Rattle.wh_commands.specs.declared.names.WorkerNames.{WorkerNames}
@@ -33,6 +33,7 @@ HeartbeatsAreRead = (names : WorkerNames) (token : List ℕ) → AreHeartbeats n
 
 -- the answer for a canceled activity is never written like that for a failed one, nor like a result
 abbrev pub CanceledIsApart : Type 0
-CanceledIsApart = (names : WorkerNames) (token other_token reason message : List ℕ) (outcome : List Payload)
-    → (activity_canceled names token reason ≢ activity_failed names other_token message)
+CanceledIsApart = (names : WorkerNames) (token other_token reason message : List ℕ)
+    (failure_type : Option (List ℕ)) (retryable : Bool) (outcome : List Payload)
+    → (activity_canceled names token reason ≢ activity_failed names other_token message failure_type retryable)
     × (activity_canceled names token reason ≢ activity_completed names other_token outcome)

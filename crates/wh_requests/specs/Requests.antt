@@ -11,7 +11,7 @@ use Rattle.wh_commands.specs.declared.names.WorkerNames.{WorkerNames}
 use Rattle.wh_requests.specs.declared.request.FailedCause.{FailedCause}
 use Rattle.wh_requests.specs.declared.request.FailedCause.TheVariants.{Nondeterministic, TooLarge, Unhandled}
 use Rattle.wh_commands.specs.CarryingOver.{Carried}
-use Rattle.wh_commands.specs.Commands.{failure, written, written_after}
+use Rattle.wh_commands.specs.Commands.{failure, typed_failure, written, written_after}
 use Rattle.wh_commands.specs.Durations.{duration_text}
 use Rattle.wh_commands.specs.Objects.{object_of, put_all}
 use Rattle.wh_commands.specs.Outcome.{on_written}
@@ -125,9 +125,10 @@ abbrev pub activity_completed : WorkerNames → List ℕ → List Payload → Da
 activity_completed names token outcome = object (put_all (
     (codes "result", payloads_written outcome) ∷ []) (answer_of names token))
 
-abbrev pub activity_failed : WorkerNames → List ℕ → List ℕ → Data
-activity_failed names token message = object (put_all (
-    (codes "failure", failure message) ∷ []) (answer_of names token))
+-- an activity that failed with a message, with the failure's type, if it has one, and the mark if it is not retried
+abbrev pub activity_failed : WorkerNames → List ℕ → List ℕ → Option (List ℕ) → Bool → Data
+activity_failed names token message failure_type retryable = object (put_all (
+    (codes "failure", typed_failure message failure_type retryable) ∷ []) (answer_of names token))
 
 -- gives up the sticky queue of a process that ends
 abbrev pub shutdown : WorkerNames → Data

@@ -1,8 +1,8 @@
 -- What a server reads from requests, by the names of their fields.
-use Rattle.std.specs.Prelude.{◌≡◌, ℕ, List, codes, Option, Some, None, Ok, option_map, true, false}
+use Rattle.std.specs.Prelude.{◌≡◌, ℕ, Bool, List, codes, Option, Some, None, Ok, option_map, true, false, if◌then◌else◌}
 use Rattle.std.specs.List.{AllByRecursion}
 use Rattle.serde_json.specs.Data.{Data}
-use Rattle.serde_json.specs.Find.{get}
+use Rattle.serde_json.specs.Find.{as_bool, get}
 use Rattle.wh_events.specs.declared.event.Event.{Event}
 use Rattle.wh_events.specs.declared.event.Payload.{Payload}
 use Rattle.wh_workflow.specs.declared.command.Command.{Command}
@@ -107,10 +107,22 @@ CompletionIsRead = (names : WorkerNames) (token : List ℕ) (cs : List Command) 
     → requests.workflow_completed names token cs events queries timeout policies carried ≡ Ok d
     → IsCompletion names token queries timeout d
 
+-- a failed activity has its message, its type, if it has one, and the mark exactly if it is not retried
+pub record IsActivityFailed (message : List ℕ) (failure_type : Option (List ℕ)) (retryable : Bool)
+    (d : Data) : Type 0 where
+  pub info : Data
+  pub told : (get (codes "failure") d >>= get (codes "applicationFailureInfo")) ≡ Some info
+  pub reason : (get (codes "failure") d >>= text_at (codes "message")) ≡ Some message
+  pub of_type : text_at (codes "type") info ≡ failure_type
+  pub final : (get (codes "nonRetryable") info >>= as_bool) ≡ (if retryable then None else Some true)
+
 abbrev pub FailuresAreRead : Type 0
-FailuresAreRead = (names : WorkerNames) (token message : List ℕ) (cause : FailedCause) (outcome : List Payload)
+FailuresAreRead = (names : WorkerNames) (token message : List ℕ) (cause : FailedCause)
+    (failure_type : Option (List ℕ)) (retryable : Bool) (outcome : List Payload)
     → IsAnswer names token (requests.workflow_failed names token cause message)
-    × IsAnswer names token (requests.activity_failed names token message)
+    × IsAnswer names token (requests.activity_failed names token message failure_type retryable)
+    × IsActivityFailed message failure_type retryable
+    (requests.activity_failed names token message failure_type retryable)
     × IsAnswer names token (requests.activity_completed names token outcome)
 
 -- a query that came alone is answered as failed, with the reason

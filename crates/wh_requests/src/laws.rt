@@ -30,7 +30,8 @@ pub fn requests_are_read()
 {}
 
 /// What a server reads from an answer: who sends it, for which task, whether the run is kept for
-/// the process's own queue and for how long, and that no query is answered.
+/// the process's own queue and for how long, that no query is answered, and of a failed activity
+/// why it failed, the failure's type, and whether it may be retried.
 pub fn answers_are_read()
     ensures completed { CompletionIsRead }
     ensures others { FailuresAreRead }

@@ -10,7 +10,7 @@ use serde_json::{Map, Value, json, put};
 use std::alloc::{AllocError, Global};
 use wh_commands::{
     CarriedOver, Members, RequestFault, WorkerNames, commands_value, put_duration, put_failure,
-    put_payloads, put_text,
+    put_payloads, put_text, put_typed_failure,
 };
 use wh_events::{Event, OutOfMemory, Payload, Text};
 use wh_policies::Policies;
@@ -316,18 +316,21 @@ pub fn activity_completed(
     Ok(Value::Object(members))
 }
 
-/// Writes the request of `RespondActivityTaskFailed`, with the reason. `OutOfMemory` if there was
-/// no memory for it.
+/// Writes the request of `RespondActivityTaskFailed`, with the reason, the failure's type, if it has
+/// one, and whether the activity may be retried. `OutOfMemory` if there was no memory for it.
 pub fn activity_failed(
     alloc: Global,
     names: &WorkerNames,
     token: &str,
     message: &str,
+    failure_type: &Option<Text>,
+    retryable: bool,
 ) -> Result<Value, OutOfMemory>
-    ensures { IfOk result (λ params. view params ≡ spec.activity_failed names.now token.now message.now) }
+    ensures { IfOk result (λ params. view params
+        ≡ spec.activity_failed names.now token.now message.now failure_type.now retryable) }
 {
     let mut members = answer_of(alloc, names, token)?;
-    put_failure(&mut members, alloc, message)?;
+    put_typed_failure(&mut members, alloc, message, failure_type, retryable)?;
     Ok(Value::Object(members))
 }
 

@@ -1,4 +1,5 @@
 pub mod Responses
 pub mod Served
 pub mod Refusals
+pub mod Completions
 pub mod Heartbeats

@@ -1,4 +1,5 @@
 //! What holds for all responses, each law as the contract of a function that does nothing.
+ghost use Rattle.wh_responses.specs.Completions.{DiscardIsRead};
 ghost use Rattle.wh_responses.specs.Heartbeats.{CancelIsRead};
 ghost use Rattle.wh_responses.specs.Served.{PageIsRead, TaskIsRead, ActivityIsRead, EmptyIsNothing};
 
@@ -16,4 +17,10 @@ pub fn results_are_read()
 /// server omits it.
 pub fn cancels_are_read()
     ensures { CancelIsRead }
+{}
+
+/// Whether a workflow task was discarded is read as the server writes it, and is false if the
+/// server omits it.
+pub fn discards_are_read()
+    ensures { DiscardIsRead }
 {}

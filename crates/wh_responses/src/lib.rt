@@ -3,11 +3,13 @@
 //! passed on as the strings in which they come.
 #![tactic(auto)]
 
+mod completion;
 mod heartbeat;
 pub mod laws;
 mod refusals;
 mod response;
 
+pub use completion::is_discarded;
 pub use heartbeat::is_cancel_requested;
 pub use refusals::is_too_large;
 pub use response::{

@@ -6,6 +6,8 @@ use Rattle.serde_json.specs.Written.{compact_text}
 use Rattle.wh_events.specs.declared.event.Payload.{Payload}
 use Rattle.wh_queryable.specs.declared.queryable.QueryResult.{QueryResult}
 use Rattle.wh_queryable.specs.declared.queryable.QueryResult.TheVariants.{Answered}
+use Rattle.wh_queryable.specs.declared.definition.WorkflowDefinition.{WorkflowDefinition}
+use Rattle.wh_queryable.specs.Definitions.{Definitions}
 use Rattle.wh_queryable.specs.Queries.{Queries, json_payload, json_result, unknown_query}
 use Rattle.wh_rows.specs.declared.row.RowsState.{RowsState}
 
@@ -22,6 +24,14 @@ row_query state query_type =
 -- the answer to a query, whatever its input is
 abbrev pub row_queries : Queries RowsState
 row_queries state query_type input = row_query state query_type
+
+-- what a table declares: the query `state`
+abbrev pub row_definition : WorkflowDefinition
+row_definition = record { queries = codes "state" ∷ []; signals = [] }
+
+-- the same under each workflow type
+abbrev pub row_definitions : Definitions
+row_definitions kind = row_definition
 
 -- the query `state` is answered by one payload, a JSON text that reads as the name of the run's state
 abbrev pub TellsItsState : Type 0

@@ -53,6 +53,39 @@ fn id_of<T: RowText>(alloc: Global, id: &T, state: &RowsState) -> Result<Text, O
     text_of(alloc, named(id.text(), state))
 }
 
+/// What a command with two texts and payloads is made of.
+#[derive(Drop)]
+struct CommandParts {
+    /// Its id.
+    id: Text,
+    /// The other text: the type of what it starts, or the signal.
+    kind: Text,
+    /// Its payloads.
+    input: Items<Payload>,
+}
+
+/// Returns what a command with two texts and payloads is made of.
+fn parts_of<T: RowText>(
+    alloc: Global,
+    id: &T,
+    kind: &T,
+    source: &Source,
+    state: &RowsState,
+    job: &Job,
+) -> Result<CommandParts, OutOfMemory>
+    ensures id { IfOk result (λ parts. parts.id ≡ named (T.bytes id.now) state.now) }
+    ensures kind { IfOk result (λ parts. parts.kind ≡ T.bytes kind.now) }
+    ensures input { IfOk result (λ parts. parts.input ≡ payloads source.now state.now job.now) }
+{
+    let id = id_of(alloc, id, state)?;
+    let kind = text_of(alloc, kind.text())?;
+    Ok(CommandParts {
+        id,
+        kind,
+        input: payloads(alloc, source, state, job)?,
+    })
+}
+
 /// Returns the command that a template of a row describes.
 fn command<T: RowText>(
     alloc: Global,
@@ -63,11 +96,14 @@ fn command<T: RowText>(
     ensures { IfOk result (λ given. given ≡ command_of (template_by T.bytes template.now) state.now job.now) }
 {
     match template {
-        CommandTemplate::StartActivity(id, activity, source) => Ok(Command::StartActivity {
-            id: id_of(alloc, id, state)?,
-            activity: text_of(alloc, activity.text())?,
-            input: payloads(alloc, source, state, job)?,
-        }),
+        CommandTemplate::StartActivity(id, activity, source) => {
+            let parts = parts_of(alloc, id, activity, source, state, job)?;
+            Ok(Command::StartActivity {
+                id: parts.id,
+                activity: parts.kind,
+                input: parts.input,
+            })
+        }
         CommandTemplate::CancelActivity(id) => Ok(Command::CancelActivity {
             id: id_of(alloc, id, state)?,
         }),
@@ -78,19 +114,23 @@ fn command<T: RowText>(
         CommandTemplate::CancelTimer(id) => Ok(Command::CancelTimer {
             id: id_of(alloc, id, state)?,
         }),
-        CommandTemplate::StartChild(workflow_id, workflow, source) => Ok(Command::StartChild {
-            workflow_id: id_of(alloc, workflow_id, state)?,
-            workflow: text_of(alloc, workflow.text())?,
-            input: payloads(alloc, source, state, job)?,
-        }),
+        CommandTemplate::StartChild(workflow_id, workflow, source) => {
+            let parts = parts_of(alloc, workflow_id, workflow, source, state, job)?;
+            Ok(Command::StartChild {
+                workflow_id: parts.id,
+                workflow: parts.kind,
+                input: parts.input,
+            })
+        }
         CommandTemplate::CancelChild(workflow_id) => Ok(Command::CancelChild {
             workflow_id: id_of(alloc, workflow_id, state)?,
         }),
         CommandTemplate::SignalExternal(workflow_id, signal, source) => {
+            let parts = parts_of(alloc, workflow_id, signal, source, state, job)?;
             Ok(Command::SignalExternal {
-                workflow_id: id_of(alloc, workflow_id, state)?,
-                signal: text_of(alloc, signal.text())?,
-                input: payloads(alloc, source, state, job)?,
+                workflow_id: parts.id,
+                signal: parts.kind,
+                input: parts.input,
             })
         }
         CommandTemplate::Ask(change_id, min, max) => Ok(Command::Ask {

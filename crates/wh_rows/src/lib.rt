@@ -28,7 +28,7 @@ pub mod words;
 pub use choose::{all_hold, count_of, is_for_job};
 pub use follow::{answer, raised, take_start, with_count};
 pub use parts::{RowList, RowText};
-pub use queries::row_query;
+pub use queries::{row_definition, row_query};
 pub use row::{
     CommandTemplate, Condition, Counter, Counts, Definition, DefinitionOf, Effect, JobPattern,
     Naming, Row, RowOf, RowsState, Source, UNCOUNTED,

@@ -1,13 +1,13 @@
 //! How runs of tables answer queries.
 ghost use Rattle.std.specs.Prelude.{◌≡◌, IfOk, string_bytes};
-ghost use Rattle.wh_rows.specs.Queries.{state_json, row_query};
+ghost use Rattle.wh_rows.specs.Queries.{state_json, row_definition, row_query};
 
 use crate::row::RowsState;
 use crate::table::{Rows, Table};
 use serde_json::Value;
 use std::alloc::Global;
 use wh_events::{OutOfMemory, Payload};
-use wh_queryable::{QueryResult, Queryable, json_result, unknown_query};
+use wh_queryable::{QueryResult, Queryable, WorkflowDefinition, json_result, unknown_query};
 
 /// Returns the name of the run's state, as a JSON string.
 fn state_json(alloc: Global, state: &RowsState) -> Result<String, OutOfMemory>
@@ -34,8 +34,16 @@ pub fn row_query(
     }
 }
 
+/// Returns what a table declares: the query `state`. Its signals are not among it. `OutOfMemory` if
+/// there is no memory for it.
+pub fn row_definition(alloc: Global) -> Result<WorkflowDefinition, OutOfMemory>
+    ensures { IfOk result (λ given. given ≡ row_definition) }
+{
+    WorkflowDefinition::nothing(alloc).with_query(alloc, "state")
+}
+
 impl<T: Table> Queryable for Rows<T> {
-    ghost use Rattle.wh_rows.specs.Queries.{row_queries};
+    ghost use Rattle.wh_rows.specs.Queries.{row_definitions, row_queries};
 
     ghost queries = { row_queries };
 
@@ -46,5 +54,11 @@ impl<T: Table> Queryable for Rows<T> {
         _input: &[Payload],
     ) -> Result<QueryResult, OutOfMemory> {
         row_query(alloc, state, query_type)
+    }
+
+    ghost definitions = { row_definitions };
+
+    fn definition(alloc: Global, _kind: &str) -> Result<WorkflowDefinition, OutOfMemory> {
+        row_definition(alloc)
     }
 }

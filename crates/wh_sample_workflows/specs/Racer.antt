@@ -9,6 +9,7 @@ use Rattle.wh_workflow.specs.declared.job.Job.TheVariants.{Start, Activity, Time
 use Rattle.wh_workflow.specs.Law.{Program, IsAnswer, IsLawful}
 use Rattle.wh_sample_workflows.specs.Endings.{result_or_failure}
 use Rattle.wh_workflow.specs.Answering.{none_is_answer, one_is_answer, two_are_answer, either_is_answer}
+use Rattle.wh_queryable.specs.Definitions.{Definitions}
 use Rattle.wh_queryable.specs.Queries.{Queries, json_result, unknown_query}
 use Rattle.wh_sample_workflows.specs.declared.racer.Phase.{Phase}
 use Rattle.wh_sample_workflows.specs.declared.racer.Phase.TheVariants.{Racing, Late, Done}
@@ -67,6 +68,10 @@ abbrev pub phase_text : Phase → List ℕ
 phase_text Racing = codes "\"racing\""
 phase_text Late = codes "\"late\""
 phase_text Done = codes "\"done\""
+
+-- it declares the query `phase`
+abbrev pub racer_definitions : Definitions
+racer_definitions kind = record { queries = codes "phase" ∷ []; signals = [] }
 
 -- the answer to a query: only `phase` is known
 abbrev pub racer_queries : Queries Phase

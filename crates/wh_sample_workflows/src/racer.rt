@@ -6,7 +6,7 @@ ghost use Rattle.wh_sample_workflows.specs.Racer.{phase_text};
 use crate::endings::result_or_failure;
 use std::alloc::Global;
 use wh_events::{OutOfMemory, Payload};
-use wh_queryable::{QueryResult, Queryable, json_result, unknown_query};
+use wh_queryable::{QueryResult, Queryable, WorkflowDefinition, json_result, unknown_query};
 use wh_workflow::{
     ActivityEnd, Command, Job, Meter, Workflow, give_all, no_payloads, text_of, texts_of,
 };
@@ -154,7 +154,7 @@ fn phase_text(phase: Phase) -> &'static str
 }
 
 impl Queryable for Racer {
-    ghost use Rattle.wh_sample_workflows.specs.Racer.{racer_queries};
+    ghost use Rattle.wh_sample_workflows.specs.Racer.{racer_definitions, racer_queries};
 
     ghost queries = { racer_queries };
 
@@ -168,5 +168,11 @@ impl Queryable for Racer {
             "phase" => json_result(alloc, String::from_str(alloc, phase_text(*state))?),
             _ => unknown_query(alloc, query_type, "phase"),
         }
+    }
+
+    ghost definitions = { racer_definitions };
+
+    fn definition(alloc: Global, _kind: &str) -> Result<WorkflowDefinition, OutOfMemory> {
+        WorkflowDefinition::nothing(alloc).with_query(alloc, "phase")
     }
 }

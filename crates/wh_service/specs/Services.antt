@@ -12,6 +12,7 @@ use Rattle.wh_json.specs.declared.fault.ReadFault.{ReadFault}
 use Rattle.wh_host.specs.declared.config.Config.{Config}
 use Rattle.wh_host.specs.declared.reply.Totals.{Totals}
 use Rattle.wh_host.specs.Machine.{IsConfig}
+use Rattle.wh_tasks.specs.Failures.{not_found}
 use Rattle.wh_tasks.specs.declared.handler.NoActivities.{NoActivities}
 use Rattle.wh_tasks.specs.declared.source.ActivityAnswer.TheVariants.{Failed}
 use Rattle.wh_poll.specs.declared.hosting.HostEnd.{HostEnd}
@@ -55,7 +56,7 @@ pub record IsHosted {P : Type 0} (program : Program P) (config : Config) (setups
   pub seats : config.seats ≡ vec_len setups
   pub left : IsHostEnd program (λ source. Recounts source.histories) (λ source. Gives source.histories)
       (λ source. source.answers) (λ source. 0) ComesFrom
-      (λ handler task answer. answer ≡ Failed (codes "no activities")) (λ old turn new. new ≡ old)
+      (λ handler task answer. answer ≡ Failed (not_found (codes "no activities"))) (λ old turn new. new ≡ old)
       config setups end
 
 -- what runs a host: it may be called with setups for all seats of a host of good sizes, and what it leaves has a worker

@@ -10,7 +10,7 @@ use Rattle.wh_workflow.specs.declared.fault.WorkflowFault.{WorkflowFault}
 use Rattle.wh_workflow.specs.declared.fault.WorkflowFault.TheVariants.{UnknownWorkflow}
 use Rattle.wh_tester.specs.Faults.{replay_fault_text, workflow_fault_name}
 use Rattle.wh_tester.specs.Report.{shown, line_text}
-use Rattle.wh_tester.specs.declared.line.Verdict.TheVariants.{Unreadable}
+use Rattle.wh_verdict.specs.declared.line.Verdict.TheVariants.{Unreadable}
 use Rattle.wh_service.specs.declared.failures.FileFailure.{FileFailure}
 use Rattle.wh_service.specs.declared.rows.FileCounts.{FileCounts}
 use Rattle.wh_service.specs.declared.rows.Row.{Row}

@@ -12,7 +12,8 @@ use std::io::Write;
 use wh_events::Text;
 use wh_host::Totals;
 use wh_json::ReadFault;
-use wh_tester::{Line, Shown, Verdict, write_line};
+use wh_tester::{Shown, write_line};
+use wh_verdict::{Line, Verdict};
 
 /// How many tasks of a file were polled, and how they ended.
 #[derive(Clone, Copy)]

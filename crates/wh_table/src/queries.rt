@@ -4,10 +4,11 @@ use crate::state::TableState;
 use crate::workflow::TableWorkflow;
 use std::alloc::Global;
 use wh_events::{OutOfMemory, Payload};
-use wh_queryable::{QueryResult, Queryable};
-use wh_rows::row_query;
+use wh_queryable::{QueryResult, Queryable, WorkflowDefinition};
+use wh_rows::{row_definition, row_query};
 
 impl Queryable for TableWorkflow {
+    ghost use Rattle.wh_rows.specs.Queries.{row_definitions};
     ghost use Rattle.wh_table.specs.Queries.{table_queries};
 
     ghost queries = { table_queries };
@@ -19,5 +20,11 @@ impl Queryable for TableWorkflow {
         _input: &[Payload],
     ) -> Result<QueryResult, OutOfMemory> {
         row_query(alloc, &state.run, query_type)
+    }
+
+    ghost definitions = { row_definitions };
+
+    fn definition(alloc: Global, _kind: &str) -> Result<WorkflowDefinition, OutOfMemory> {
+        row_definition(alloc)
     }
 }

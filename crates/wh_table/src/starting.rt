@@ -175,6 +175,27 @@ fn refuse(
     })
 }
 
+/// Starts a run by its first job: with the table in its first payload, or by failing it.
+fn start_with(
+    alloc: Global,
+    workflow: &Text,
+    input: &Items<Payload>,
+    job: &Job,
+) -> Result<Opened, OutOfMemory>
+    ensures state { IfOk result (λ o. o.state
+        ≡ opened workflow.now (front input.now) (table_in input.now) job.now) }
+    ensures given { IfOk result (λ o. o.given.items
+        ≡ opening workflow.now (front input.now) (table_in input.now) job.now) }
+{
+    let kind = workflow.try_copy()?;
+    let payload = front(alloc, input.get())?;
+    match table_in(alloc, input.get()) {
+        Ok(table) => follow_table(alloc, kind, payload, table, job),
+        Err(TableFault::OutOfMemory) => Err(OutOfMemory),
+        Err(fault) => refuse(alloc, kind, payload, fault, job),
+    }
+}
+
 /// Starts a run: with the table in its first payload, or by failing it.
 pub(crate) fn start(
     alloc: Global,
@@ -192,11 +213,5 @@ pub(crate) fn start(
         workflow: workflow.try_copy()?,
         input: tail(alloc, input.get())?,
     };
-    let kind = workflow.try_copy()?;
-    let payload = front(alloc, input.get())?;
-    match table_in(alloc, input.get()) {
-        Ok(table) => follow_table(alloc, kind, payload, table, &job),
-        Err(TableFault::OutOfMemory) => Err(OutOfMemory),
-        Err(fault) => refuse(alloc, kind, payload, fault, &job),
-    }
+    start_with(alloc, workflow, input, &job)
 }

@@ -1,5 +1,6 @@
 //! Checks the table in a file.
-ghost use Rattle.std.specs.Prelude.{◌≡◌, IfOk};
+ghost use Rattle.std.specs.Prelude.{◌≡◌, [], length, IfOk};
+ghost use Rattle.wh_table_check.specs.Warnings as rules;
 ghost use Rattle.wh_table_check.specs.Checks.{nothing, faults_found, count_of, warnings_of, IsMoreOf, checked};
 ghost use Rattle.wh_table_text.specs.Reading.{table_of};
 
@@ -7,6 +8,7 @@ use crate::finding::{Finding, fault_findings};
 use crate::warning::warnings;
 use std::alloc::Global;
 use wh_events::{Items, OutOfMemory, Text};
+use wh_row_rules::OwnedRow;
 use wh_table_text::{TableFault, list_faults, read_table};
 
 /// Rows that a run follows; a picture of the table marks them.
@@ -102,24 +104,58 @@ struct TableFacts {
     more: More,
 }
 
-/// Returns these facts for a text that is a table.
+/// Returns these facts for a text that is a table of these rows, which breaks no rule.
+fn facts_with<M: MoreFindings>(
+    alloc: Global,
+    rows: &[OwnedRow],
+    bytes: &[u8],
+) -> Result<TableFacts, OutOfMemory>
+    ensures rows { IfOk result (λ facts. facts.rows ≡ length rows.now) }
+    ensures warnings { IfOk result (λ facts. facts.warnings.items ≡ rules.warnings rows.now) }
+    ensures more { IfOk result (λ facts. M.finds bytes.now facts.more) }
+{
+    let warnings = warnings(alloc, rows)?;
+    match M::more(alloc, bytes) {
+        Ok(more) => Ok(TableFacts {
+            rows: rows.len(),
+            warnings,
+            more,
+        }),
+        Err(full) => {
+            drop(warnings);
+            Err(full)
+        }
+    }
+}
+
+/// Returns these facts for a text that breaks a rule.
+fn no_facts(alloc: Global) -> Result<TableFacts, OutOfMemory>
+    ensures rows { IfOk result (λ facts. facts.rows ≡ 0) }
+    ensures warnings { IfOk result (λ facts. facts.warnings.items ≡ []) }
+    ensures more { IfOk result (λ facts. facts.more ≡ nothing) }
+{
+    let more = nothing(alloc)?;
+    Ok(TableFacts {
+        rows: 0,
+        warnings: Vec::new(alloc),
+        more,
+    })
+}
+
+/// Returns these facts for a text.
 fn facts_of<M: MoreFindings>(alloc: Global, bytes: &[u8]) -> Result<TableFacts, OutOfMemory>
     ensures rows { IfOk result (λ facts. facts.rows ≡ count_of (table_of bytes.now)) }
     ensures warnings { IfOk result (λ facts. facts.warnings.items ≡ warnings_of (table_of bytes.now)) }
     ensures more { IfOk result (λ facts. IsMoreOf M.finds (table_of bytes.now) bytes.now facts.more) }
 {
     match read_table(alloc, bytes) {
-        Ok(table) => Ok(TableFacts {
-            rows: table.rows.get().len(),
-            warnings: warnings(alloc, table.rows.get())?,
-            more: M::more(alloc, bytes)?,
-        }),
+        Ok(table) => {
+            let facts = facts_with::<M>(alloc, table.rows.get(), bytes);
+            drop(table);
+            facts
+        }
         Err(TableFault::OutOfMemory) => Err(OutOfMemory),
-        Err(_) => Ok(TableFacts {
-            rows: 0,
-            warnings: Vec::new(alloc),
-            more: nothing(alloc)?,
-        }),
+        Err(_) => no_facts(alloc),
     }
 }
 

@@ -1,14 +1,12 @@
 -- The first fault in the list is the one at which reading stops.
-use Rattle.std.proofs.Common.{◌≡◌, ℕ, suc, ◌+◌, Bool, true, false, List, [], ◌∷◌, ◌++◌, length, Option, Some, None, Result, Ok, Err, refl, ap, sym, ◌∙◌, arith}
+use Rattle.std.proofs.Common.{◌≡◌, ℕ, suc, ◌+◌, Bool, true, false, List, [], ◌∷◌, ◌++◌, length, Option, Some, None, Result, Ok, Err, refl, ap, ◌∙◌, arith}
 use Rattle.std.specs.Prelude.{leb, option_map, option_to_list, slice_get, if◌then◌else◌}
 use Rattle.serde_json.specs.Data.{Data}
 use Rattle.wh_events.specs.Machines.{or_else}
 use Rattle.wh_json.specs.declared.fault.ReadFault.{ReadFault}
 use Rattle.wh_json.specs.Events.{document_within}
-use Rattle.wh_json.specs.Fields.{field}
 use Rattle.wh_rows.specs.Tables.{Naming, Row}
-use Rattle.wh_rows.specs.Rules.{Rule, TableFault as RuleFault, BeginsNowhere, InRow, in_row, row_rule, rows_fault, table_fault, has_state}
-use Rattle.wh_row_rules.specs.declared.fault.RowsFault.TheVariants as broken_rows
+use Rattle.wh_rows.specs.Rules.{Rule, TableFault as RuleFault, BeginsNowhere, InRow, in_row, row_rule, rows_fault, has_state}
 use Rattle.wh_row_rules.specs.declared.owned.OwnedTable.{OwnedTable}
 use Rattle.wh_row_rules.specs.Broken.{broken, broken_rule, definition}
 use Rattle.wh_table_text.specs.declared.fault.TableFault.{TableFault}
@@ -18,8 +16,8 @@ use Rattle.wh_table_text.specs.declared.counters.NamedCounter.{NamedCounter}
 use Rattle.wh_table_text.specs.Counters.{bounds_of}
 use Rattle.wh_table_text.specs.Numbered.{numbered}
 use Rattle.wh_table_text.specs.Outcome.{◌>>=◌, or_fault, passes, faultless, all_of}
-use Rattle.wh_table_text.specs.Reading.{first_state, is_known, counters_at, naming_at, row_at, rows_from, rows_in, shape_of, table_of, or_not_json, of_rows, rules_fault}
-use Rattle.wh_table_text.specs.Faults.{fault_in, or_next, counters_in, few_rows, rows_listed, unread, unread_rows, shape_faults, breaks, by_first, rule_faults, value_faults, document_faults, FirstStopsReading}
+use Rattle.wh_table_text.specs.Reading.{first_state, row_at, rows_from, rows_in, shape_of, table_of, or_not_json, of_rows, rules_fault}
+use Rattle.wh_table_text.specs.Faults.{fault_in, or_next, counters_in, few_rows, rows_listed, unread, unread_rows, shape_faults, breaks, by_first, rule_faults, document_faults, FirstStopsReading}
 
 -- ---- Rows that can't be read
 

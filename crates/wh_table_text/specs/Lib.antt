@@ -1,10 +1,12 @@
 pub mod Outcome
 pub mod Words
 pub mod Verbs
+pub mod VerbGroups
 pub mod Numbers
 pub mod Counters
 pub mod Phrases
 pub mod Reading
+pub mod RowParts
 pub mod Texts
 pub mod Numbered
 pub mod Faults

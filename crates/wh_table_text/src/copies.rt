@@ -15,6 +15,20 @@ pub(crate) fn text_copy(alloc: Global, text: &str) -> Result<Text, TableFault>
     Ok(Text::new(String::from_str(alloc, text)?))
 }
 
+/// Returns owned copies of two texts.
+pub(crate) fn text_pair(
+    alloc: Global,
+    first: &str,
+    second: &str,
+) -> Result<(Text, Text), TableFault>
+    ensures first { Gives (λ texts. texts.0) result (Ok first.now) }
+    ensures second { Gives (λ texts. texts.1) result (Ok second.now) }
+{
+    let first = text_copy(alloc, first)?;
+    let second = text_copy(alloc, second)?;
+    Ok((first, second))
+}
+
 /// Returns a copy of the pattern that owns its texts.
 pub(crate) fn pattern_copy(
     alloc: Global,
@@ -46,11 +60,10 @@ pub(crate) fn template_copy(
     ensures { Gives (λ template. template) result (Ok (template_shown template.now)) }
 {
     Ok(match template {
-        CommandTemplate::StartActivity(id, kind, source) => CommandTemplate::StartActivity(
-            text_copy(alloc, id)?,
-            text_copy(alloc, kind)?,
-            *source,
-        ),
+        CommandTemplate::StartActivity(id, kind, source) => {
+            let (id, kind) = text_pair(alloc, id, kind)?;
+            CommandTemplate::StartActivity(id, kind, *source)
+        }
         CommandTemplate::CancelActivity(id) => {
             CommandTemplate::CancelActivity(text_copy(alloc, id)?)
         }
@@ -58,17 +71,15 @@ pub(crate) fn template_copy(
             CommandTemplate::StartTimer(text_copy(alloc, id)?, *seconds)
         }
         CommandTemplate::CancelTimer(id) => CommandTemplate::CancelTimer(text_copy(alloc, id)?),
-        CommandTemplate::StartChild(id, kind, source) => CommandTemplate::StartChild(
-            text_copy(alloc, id)?,
-            text_copy(alloc, kind)?,
-            *source,
-        ),
+        CommandTemplate::StartChild(id, kind, source) => {
+            let (id, kind) = text_pair(alloc, id, kind)?;
+            CommandTemplate::StartChild(id, kind, *source)
+        }
         CommandTemplate::CancelChild(id) => CommandTemplate::CancelChild(text_copy(alloc, id)?),
-        CommandTemplate::SignalExternal(id, name, source) => CommandTemplate::SignalExternal(
-            text_copy(alloc, id)?,
-            text_copy(alloc, name)?,
-            *source,
-        ),
+        CommandTemplate::SignalExternal(id, name, source) => {
+            let (id, name) = text_pair(alloc, id, name)?;
+            CommandTemplate::SignalExternal(id, name, *source)
+        }
         CommandTemplate::Ask(id, min, max) => {
             CommandTemplate::Ask(text_copy(alloc, id)?, *min, *max)
         }
@@ -88,7 +99,8 @@ pub(crate) fn naming_copy(alloc: Global, naming: &Naming<&str>) -> Result<Naming
     Ok(match naming {
         Naming::Nameless => Naming::Nameless,
         Naming::ByPayload(number, prefix, other) => {
-            Naming::ByPayload(*number, text_copy(alloc, prefix)?, text_copy(alloc, other)?)
+            let (prefix, other) = text_pair(alloc, prefix, other)?;
+            Naming::ByPayload(*number, prefix, other)
         }
     })
 }

@@ -5,8 +5,9 @@ ghost use Rattle.wh_table_text.specs.Outcome.{Gives, all_of};
 ghost use Rattle.wh_table_text.specs.Phrases.{pattern_shown};
 ghost use Rattle.wh_table_text.specs.Reading.{cell, job_at, is_short_list, or_same, row_at, rows_from};
 ghost use Rattle.wh_table_text.specs.Reading.{templates_at, conditions_at, effects_at};
+ghost use Rattle.wh_table_text.specs.RowParts.{row_with};
 
-use crate::copies::{pattern_copy, text_copy};
+use crate::copies::{pattern_copy, text_pair};
 use crate::counters::NamedCounter;
 use crate::fault::{RowFault, TableFault};
 use crate::lists::{each_condition, each_effect, each_template, in_row, phrases_at};
@@ -127,6 +128,32 @@ fn or_same(text: &str) -> &str
     if text.is_empty() { "same" } else { text }
 }
 
+/// Returns the row that a value describes, with this number, state and job.
+fn row_with(
+    alloc: Global,
+    row: u64,
+    names: &[NamedCounter],
+    value: &Value,
+    state: &str,
+    job: JobPattern<Text>,
+) -> Result<OwnedRow, TableFault>
+    ensures { Gives (λ row. row) result (row_with names.now row (view value.now) state.now job) }
+{
+    let conditions = conditions_at(alloc, row, names, value.get(2usize))?;
+    let gives = templates_at(alloc, row, value.get(3usize))?;
+    let next = cell(row, 4, value)?;
+    let effects = effects_at(alloc, row, names, value.get(5usize))?;
+    let (state, next) = text_pair(alloc, state, or_same(next))?;
+    Ok(RowOf {
+        state,
+        job,
+        conditions: Items::new(conditions),
+        gives: Items::new(gives),
+        effects: Items::new(effects),
+        next,
+    })
+}
+
 /// Returns the row that a value describes, with this number.
 #[tactic(auto, unfolding(crate::specs::Reading::row_at))]
 pub(crate) fn row_at(
@@ -142,18 +169,7 @@ pub(crate) fn row_at(
     }
     let state = cell(row, 0, value)?;
     let job = own_job_at(alloc, row, cell(row, 1, value)?)?;
-    let conditions = conditions_at(alloc, row, names, value.get(2usize))?;
-    let gives = templates_at(alloc, row, value.get(3usize))?;
-    let next = cell(row, 4, value)?;
-    let effects = effects_at(alloc, row, names, value.get(5usize))?;
-    Ok(RowOf {
-        state: text_copy(alloc, state)?,
-        job,
-        conditions: Items::new(conditions),
-        gives: Items::new(gives),
-        effects: Items::new(effects),
-        next: text_copy(alloc, or_same(next))?,
-    })
+    row_with(alloc, row, names, value, state, job)
 }
 
 /// Returns the rows that the values of a list describe, numbered from 1.

@@ -1,5 +1,6 @@
 //! The first words of phrases.
 ghost use Rattle.std.specs.Prelude.{◌≡◌};
+ghost use Rattle.wh_table_text.specs.VerbGroups.{child_verb, closing_verb, run_verb};
 ghost use Rattle.wh_table_text.specs.Verbs.{job_verb, command_verb, source_of};
 
 use wh_rows::Source;
@@ -38,6 +39,25 @@ pub(crate) enum CommandVerb {
     Again,
 }
 
+/// Returns what the first word of a job means that is about a child workflow or a version.
+fn child_verb(word: &str) -> Option<JobVerb>
+    ensures { result ≡ child_verb word.now }
+{
+    if word == "child-started" {
+        Some(JobVerb::ChildStarted)
+    } else if word == "child-done" {
+        Some(JobVerb::ChildDone)
+    } else if word == "child-canceled" {
+        Some(JobVerb::ChildCanceled)
+    } else if word == "child-failed" {
+        Some(JobVerb::ChildFailed)
+    } else if word == "version" {
+        Some(JobVerb::Version)
+    } else {
+        None
+    }
+}
+
 /// Returns what the first word of a job means.
 #[tactic(auto, unfolding(crate::specs::Verbs::job_verb))]
 pub(crate) fn job_verb(word: &str) -> Option<JobVerb>
@@ -55,18 +75,45 @@ pub(crate) fn job_verb(word: &str) -> Option<JobVerb>
         Some(JobVerb::Failed)
     } else if word == "fired" {
         Some(JobVerb::Fired)
-    } else if word == "child-started" {
-        Some(JobVerb::ChildStarted)
-    } else if word == "child-done" {
-        Some(JobVerb::ChildDone)
-    } else if word == "child-canceled" {
-        Some(JobVerb::ChildCanceled)
-    } else if word == "child-failed" {
-        Some(JobVerb::ChildFailed)
-    } else if word == "version" {
-        Some(JobVerb::Version)
+    } else {
+        child_verb(word)
+    }
+}
+
+/// Returns what the first word of a command means that closes the run.
+fn closing_verb(word: &str) -> Option<CommandVerb>
+    ensures { result ≡ closing_verb word.now }
+{
+    if word == "complete" {
+        Some(CommandVerb::Complete)
+    } else if word == "fail" {
+        Some(CommandVerb::Fail)
+    } else if word == "cancel" {
+        Some(CommandVerb::Cancel)
+    } else if word == "continue" {
+        Some(CommandVerb::Continue)
+    } else if word == "again" {
+        Some(CommandVerb::Again)
     } else {
         None
+    }
+}
+
+/// Returns what the first word of a command means that is about another run, asks for a version or
+/// closes the run.
+fn run_verb(word: &str) -> Option<CommandVerb>
+    ensures { result ≡ run_verb word.now }
+{
+    if word == "child" {
+        Some(CommandVerb::Child)
+    } else if word == "cancel-child" {
+        Some(CommandVerb::CancelChild)
+    } else if word == "signal" {
+        Some(CommandVerb::Signal)
+    } else if word == "ask" {
+        Some(CommandVerb::Ask)
+    } else {
+        closing_verb(word)
     }
 }
 
@@ -83,26 +130,8 @@ pub(crate) fn command_verb(word: &str) -> Option<CommandVerb>
         Some(CommandVerb::Timer)
     } else if word == "cancel-timer" {
         Some(CommandVerb::CancelTimer)
-    } else if word == "child" {
-        Some(CommandVerb::Child)
-    } else if word == "cancel-child" {
-        Some(CommandVerb::CancelChild)
-    } else if word == "signal" {
-        Some(CommandVerb::Signal)
-    } else if word == "ask" {
-        Some(CommandVerb::Ask)
-    } else if word == "complete" {
-        Some(CommandVerb::Complete)
-    } else if word == "fail" {
-        Some(CommandVerb::Fail)
-    } else if word == "cancel" {
-        Some(CommandVerb::Cancel)
-    } else if word == "continue" {
-        Some(CommandVerb::Continue)
-    } else if word == "again" {
-        Some(CommandVerb::Again)
     } else {
-        None
+        run_verb(word)
     }
 }
 

@@ -1,3 +1,4 @@
+pub mod Failures
 pub mod Numbers
 pub mod Source
 pub mod Tasks

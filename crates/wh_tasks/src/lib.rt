@@ -2,10 +2,12 @@
 //! of a workflow task.
 #![tactic(auto)]
 
+mod failure;
 mod handler;
 mod source;
 mod task;
 
+pub use failure::ActivityFailure;
 pub use handler::{ActivityHandler, Gate, NoActivities, OpenGate};
 pub use source::{
     Acceptance, ActivityAnswer, ActivityTask, Polled, RunUse, Sent, SourceFault, TaskSource,

@@ -1,6 +1,7 @@
 //! Sources of tasks: workers poll them, and send them the answers.
 ghost use Rattle.std.specs.Prelude.{◌≡◌, ◌++◌, ◌∷◌, [], ℕ, List, IfOk, OnOk, OnErr};
 
+use crate::failure::ActivityFailure;
 use wh_events::{Event, Items, OutOfMemory, Payload, RunKey, Text};
 use wh_replay::Answer;
 use wh_slots::TaskName;
@@ -50,7 +51,7 @@ pub enum ActivityAnswer {
     /// The activity's result.
     Completed(Items<Payload>),
     /// Why the activity failed.
-    Failed(Text),
+    Failed(ActivityFailure),
 }
 
 impl ActivityAnswer {
@@ -60,7 +61,7 @@ impl ActivityAnswer {
     {
         match self {
             ActivityAnswer::Completed(result) => Ok(ActivityAnswer::Completed(result.try_copy()?)),
-            ActivityAnswer::Failed(reason) => Ok(ActivityAnswer::Failed(reason.try_copy()?)),
+            ActivityAnswer::Failed(failure) => Ok(ActivityAnswer::Failed(failure.try_copy()?)),
         }
     }
 }
@@ -110,13 +111,16 @@ pub struct Acceptance {
 ///   `fetches`);
 /// - which sources it comes from, and goes on to come from after each call (`comes_from`);
 /// - which tasks' runs may be cached (`caches`). A task that was just polled is not one of them,
-///   unless the runs of all tasks may be cached.
+///   unless the runs of all tasks may be cached;
+/// - with which events it is sent an answer (`hears`).
 ///
 /// That its histories are the true ones is the source's own promise.
 pub trait TaskSource {
     ghost use Rattle.wh_slots.specs.declared.TaskName.{TaskName};
     ghost use Rattle.wh_events.specs.declared.event.Event.{Event};
     ghost use Rattle.wh_events.specs.declared.key.RunKey.{RunKey};
+    ghost use Rattle.wh_replay.specs.declared.run.Answer.{Answer};
+    ghost use Rattle.wh_tasks.specs.declared.source.Acceptance.{Acceptance};
     ghost use Rattle.wh_tasks.specs.declared.source.Sent.{Sent};
     ghost use Rattle.wh_tasks.specs.declared.source.RunUse.{RunUse};
     ghost use Rattle.wh_tasks.specs.declared.source.Sent.TheVariants.{Workflow as OfWorkflow, Activity as OfActivity};
@@ -141,6 +145,10 @@ pub trait TaskSource {
 
     /// Which tasks' runs may be cached.
     ghost caches: { Self → TaskName → Type 0 };
+
+    /// How the answer to a workflow task, with the events and the steps of its replay, may change the
+    /// source, by what becomes of it. A source that leaves it out says nothing of it.
+    ghost hears: { Self → TaskName → Answer → List Event → ℕ → Acceptance → Self → Type 0 } = { λ old name answer events steps acceptance new. Unit {0} };
 
     /// Polls the next workflow task, if there is one. Its run may not be cached before the task is
     /// answered, unless the runs of all tasks may be cached. A fault returns no task. Nothing is
@@ -181,26 +189,21 @@ pub trait TaskSource {
     /// run may not be cached if the answer does not count, because the history may then go on
     /// differently.
     ///
-    /// A source implements this if it needs the events, as for the number of the event that
-    /// scheduled a canceled activity, if it logs the steps, or if only some runs may be cached. By
-    /// default it calls `answer_workflow`, and treats the run as one without an answer.
+    /// A source needs the events for the number of the event that scheduled a canceled activity. One
+    /// that needs neither them nor the steps calls `answer_workflow`.
     fn answer_replayed(
         &mut self,
         name: TaskName,
         answer: &Answer,
-        _events: &[Event],
-        _steps: u64,
+        events: &[Event],
+        steps: u64,
     ) -> Acceptance
+        ensures hears { hears self.old name answer.now events.now steps result self.new }
         ensures sent { OnOk result.sent (answers self.new ≡ answers self.old ++ (name, OfWorkflow answer.now) ∷ []) }
         ensures unsent { OnErr result.sent (answers self.new ≡ answers self.old) }
         ensures run { result.run ≡ RunUse.Cache → caches self.new name }
         ensures failures { FailsOnly result.sent (failures self.old) (failures self.new) }
-        ensures keeps { KeepsSource delivers fetches comes_from self.old self.new }
-    {
-        let sent = self.answer_workflow(name, answer);
-        let run = self.without_answer();
-        Acceptance { sent, run }
-    }
+        ensures keeps { KeepsSource delivers fetches comes_from self.old self.new };
 
     /// Returns what becomes of the run of a workflow task whose answer was never sent, as when
     /// there was no memory for it. Returns `Cache` only if the runs of all tasks may be cached.

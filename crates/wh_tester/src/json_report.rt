@@ -8,12 +8,12 @@ ghost use Rattle.wh_tester.specs.Json.{escaped_char, escaped, following, event_m
 ghost use Rattle.wh_tester.specs.Json.{verdict_members, json_line, open_line, totals_object};
 
 use crate::faults::ReplayFaultText;
-use crate::line::{Line, Verdict};
 use crate::report::{EventText, event_of, name_of, shown_char, words_of};
 use std::io::Write;
 use std::{fmt, io};
 use wh_json::ReadFault;
 use wh_replay::Fault;
+use wh_verdict::{Line, Verdict};
 use wh_workflow::Mismatch;
 
 /// Returns what comes before a character in a string of JSON: a `\` before `"` and `\`.

@@ -10,10 +10,10 @@ use Rattle.wh_json.specs.Events.{document_within, events_in, history, longest, m
 use Rattle.wh_json.specs.Fields.{document}
 use Rattle.wh_json.specs.Outcome.{◌>>=◌, Gives, all_of, or_fault}
 use Rattle.wh_workflow.specs.Law.{Program}
-use Rattle.wh_tester.proofs.Reading.{read_within}
+use Rattle.wh_verdict.proofs.Reading.{read_within}
 use Rattle.wh_tester.specs.Report.{is_good}
-use Rattle.wh_tester.specs.Verdicts.{IsVerdict, read_and_judged, verdict_on}
-use Rattle.wh_tester.specs.declared.line.Verdict.{Verdict}
+use Rattle.wh_verdict.specs.Verdicts.{IsVerdict, read_and_judged, verdict_on}
+use Rattle.wh_verdict.specs.declared.line.Verdict.{Verdict}
 use Rattle.wh_explain.specs.Explaining.{unknown_in}
 use Rattle.wh_explain.specs.Reading.{AreExplained, IsReadOf}
 use Rattle.wh_explain.specs.declared.explanation.ExplainedTask.{ExplainedTask}

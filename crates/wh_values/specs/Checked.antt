@@ -5,7 +5,7 @@ use Rattle.wh_json.specs.declared.fault.ReadFault.{ReadFault}
 use Rattle.wh_json.specs.Events.{document_within, events_in, history}
 use Rattle.wh_workflow.specs.Law.{Program}
 use Rattle.wh_tester.specs.Report.{is_good}
-use Rattle.wh_tester.specs.declared.line.Verdict.{Verdict}
+use Rattle.wh_verdict.specs.declared.line.Verdict.{Verdict}
 use Rattle.wh_explain.specs.declared.explanation.ExplainedTask.{ExplainedTask}
 use Rattle.wh_explain.specs.Explaining.{AreTasksIn}
 use Rattle.wh_values.specs.declared.comparing.OtherValue.{OtherValue}

@@ -7,7 +7,7 @@ ghost use Rattle.wh_explain.specs.Explaining.{unknown_in};
 ghost use Rattle.wh_explain.specs.Reading.{IsReadOf};
 ghost use Rattle.wh_json.specs.Events.{document_within, history, longest};
 ghost use Rattle.wh_tester.specs.Report.{is_good};
-ghost use Rattle.wh_tester.specs.Verdicts.{IsVerdict};
+ghost use Rattle.wh_verdict.specs.Verdicts.{IsVerdict};
 ghost use Rattle.wh_values.specs.Checked.{AreOtherValues, members_of, values_if};
 ghost use Rattle.wh_values.specs.Private.Found.{IsFound};
 
@@ -18,7 +18,8 @@ use std::alloc::Global;
 use wh_events::{Event, OutOfMemory};
 use wh_explain::{ExplainedTask, Finding, explain_read};
 use wh_json::{ReadFault, events_in, read_document, read_members};
-use wh_tester::{Verdict, is_good};
+use wh_tester::is_good;
+use wh_verdict::Verdict;
 use wh_workflow::Workflow;
 
 /// The values that differ of tasks, if the replay is good.
@@ -39,6 +40,29 @@ fn values_if(
     }
 }
 
+/// What the replay of a file with these members found, with the values that differ of its tasks.
+fn with_values(
+    alloc: Global,
+    members: &[Value],
+    finding: Finding,
+    tasks: Vec<ExplainedTask>,
+) -> Result<(Finding, Vec<OtherValue>), OutOfMemory>
+    ensures finding { IfOk result (λ found. found.0 ≡ finding) }
+    ensures values { IfOk result (λ found.
+        found.1.items ≡ values_if (is_good finding.verdict) (map view members.now) tasks.items) }
+    ensures good { IfErr result (λ _. is_good finding.verdict ≡ true) }
+{
+    let values = values_if(alloc, &finding.verdict, members, tasks.as_slice());
+    drop(tasks);
+    match values {
+        Ok(values) => Ok((finding, values)),
+        Err(full) => {
+            drop(finding);
+            Err(full)
+        }
+    }
+}
+
 /// What the replay of a file with these members finds by what was read of it, and the values that
 /// differ.
 fn find_with<W: Workflow>(
@@ -51,8 +75,7 @@ fn find_with<W: Workflow>(
     ensures memory { (bytes : List ℕ) → IsReadOf bytes read → IfErr result (λ _. length bytes ≤ longest) }
 {
     let (finding, tasks) = explain_read::<W>(alloc, read)?;
-    let values = values_if(alloc, &finding.verdict, members, tasks.as_slice())?;
-    Ok((finding, values))
+    with_values(alloc, members, finding, tasks)
 }
 
 /// What the replay of a file with this document finds, and the values that differ.

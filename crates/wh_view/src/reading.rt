@@ -33,12 +33,12 @@ fn event_of(
     ensures read { IfOk result (λ event. event.read ≡ partial_event place before (view member.now)) }
 {
     let attributes = attributes_in(member);
-    let read = partial_event(alloc, place, before, member)?;
     let moment = copied(alloc, text_of(field(Some(member), "eventTime")))?;
     let failure = copied(alloc, failure_of(attributes))?;
     let duration = copied(alloc, duration_of(attributes))?;
     let payloads = Items::new(payload_texts(alloc, attributes)?);
     let json = json_of(alloc, member)?;
+    let read = partial_event(alloc, place, before, member)?;
     Ok(ViewedEvent {
         place,
         read,

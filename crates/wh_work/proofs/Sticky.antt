@@ -1,6 +1,6 @@
 -- Runs are kept beside a sticky queue.
 use Rattle.std.proofs.Common.{◌≡◌, ◌∙◌, ℕ, ◌<◌, ◌≤◌, Bool, true, false, None, Some, refl, sym, ap, subst, arith}
-use Rattle.std.specs.Prelude.{◌&&◌, IsSome, Option, if◌then◌else◌, leb}
+use Rattle.std.specs.Prelude.{◌&&◌, IsSome, if◌then◌else◌, leb}
 use Rattle.std.proofs.lemmas.Bool.{leb-false, leb-true, le-leb}
 use Rattle.wh_command_line.specs.declared.work.WorkOptions.{WorkOptions}
 use Rattle.wh_work.specs.Plans.{keeps_runs, RunsAreKeptBesideAStickyQueue, StickyQueueKeepsRuns, TwoKeepWhatIsAskedFor}

@@ -4,3 +4,4 @@ pub mod Reports
 pub mod Times
 pub mod Progress
 pub mod Calls
+pub mod MetricsPaths

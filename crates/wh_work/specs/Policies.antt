@@ -4,6 +4,7 @@ use Rattle.wh_command_line.specs.declared.work.WorkOptions.{WorkOptions}
 use Rattle.wh_policies.specs.Defaults as plain
 use Rattle.wh_policies.specs.declared.policies.Policies.{Policies}
 use Rattle.wh_policy_file.specs.Policies.{IsRead, IsRefused}
+use Rattle.wh_work.specs.MetricsPaths.{IsMetricsText}
 use Rattle.wh_work.specs.declared.policies.PlanFault.{PlanFault}
 use Rattle.wh_work.specs.declared.policies.PlanFault.TheVariants as plan
 
@@ -20,7 +21,12 @@ AreGiven seconds attempts (Some path) policies = AreOfFile seconds attempts poli
 abbrev pub ArePolicies : WorkOptions → Policies → Type 0
 ArePolicies options policies = AreGiven options.activity_timeout options.activity_attempts options.policies policies
 
--- a file is refused for what its text has
-abbrev pub IsPlanFault : PlanFault → Type 0
-IsPlanFault (plan.BadPolicies bad) = (text : List ℕ) × IsRefused text bad.fault
-IsPlanFault _ = Unit {0}
+-- a file of policies is refused for what its text has, and the path of a file of counts for what is there or beside it
+abbrev pub IsPlanFault : (metrics : Option (List ℕ)) → PlanFault → Type 0
+IsPlanFault metrics (plan.BadPolicies bad) = (text : List ℕ) × IsRefused text bad.fault
+IsPlanFault metrics (plan.BadMetrics text) = IsMetricsText metrics text
+IsPlanFault metrics _ = Unit {0}
+
+-- why there are no policies, wherever counts are kept
+abbrev pub IsPolicyFault : PlanFault → Type 0
+IsPolicyFault fault = (metrics : Option (List ℕ)) → IsPlanFault metrics fault

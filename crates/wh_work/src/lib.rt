@@ -7,6 +7,7 @@ mod counted_calls;
 mod counting;
 pub mod laws;
 mod metrics_file;
+mod metrics_path;
 mod plan;
 mod policies;
 mod progress;
@@ -16,7 +17,8 @@ mod watch;
 mod workers;
 
 pub use calls::calls_over;
-pub use metrics_file::FileReplacer;
+pub use metrics_file::{FileReplacer, ReplaceFault};
+pub use metrics_path::Obstacle;
 pub use plan::{LivePlan, live_plan};
 pub use policies::{BadPolicies, PlanFault};
 pub use report::{LiveReport, live_status};

@@ -3,9 +3,12 @@
 ghost use Rattle.std.specs.Prelude.{◌≡◌, IfOk, None, string_bytes};
 ghost use Rattle.wh_metrics.specs.Exposition.{metrics_text};
 ghost use Rattle.wh_metrics.specs.Labels.{labels_text};
+ghost use Rattle.wh_work.specs.MetricsPaths.{replace_words, unwritten_words};
 ghost use Rattle.wh_work.specs.Progress.{end_metrics};
 
+use crate::metrics_path::{Obstacle, obstacle_at, path_beside};
 use std::alloc::{AllocError, Global};
+use std::fs;
 use std::rt::Files;
 use wh_commands::WorkerNames;
 use wh_crew::LiveEnd;
@@ -53,8 +56,25 @@ pub(crate) fn end_metrics(metrics: &Metrics, end: &LiveEnd) -> Metrics
     }
 }
 
+/// Why a file is not replaced.
+#[derive(Clone, Copy, Debug)]
+pub enum ReplaceFault {
+    /// What is at its path, or at that beside it, is no regular file.
+    Obstructed {
+        /// What is there.
+        obstacle: Obstacle,
+    },
+    /// It can't be written.
+    Unwritten {
+        /// Why not.
+        fault: FolderFault,
+    },
+}
+
 /// Why a file can't be written, in words.
-fn words(fault: FolderFault) -> &'static str {
+fn words_of(fault: FolderFault) -> &'static str
+    ensures { result.now ≡ unwritten_words fault }
+{
     match fault {
         FolderFault::OutOfMemory => "out of memory",
         FolderFault::Unreadable {
@@ -64,17 +84,54 @@ fn words(fault: FolderFault) -> &'static str {
     }
 }
 
+impl ReplaceFault {
+    /// Returns the words in which it is reported.
+    fn words(self) -> &'static str
+        ensures { result.now ≡ replace_words self }
+    {
+        match self {
+            ReplaceFault::Obstructed { obstacle } => obstacle.words(),
+            ReplaceFault::Unwritten { fault } => words_of(fault),
+        }
+    }
+}
+
 /// What can replace files whole, as a runtime with files can. It stands for `Files` where threads
 /// do so.
 pub trait FileReplacer {
     /// Replaces what the file at `path` has, by way of a file at `beside`, as
-    /// [`replace_file`](wh_files::replace_file). After an error it is as it was.
-    fn replace(&self, path: &str, beside: &str, bytes: &[u8]) -> Result<(), FolderFault>;
+    /// [`replace_file`](wh_files::replace_file). After an error it is as it was, and no file is
+    /// left at `beside`.
+    ///
+    /// `Obstructed` if something other than a regular file is at `path` or at `beside`, as a link,
+    /// a folder, a pipe or a device: all is as it was then.
+    fn replace(&self, path: &str, beside: &str, bytes: &[u8]) -> Result<(), ReplaceFault>;
+}
+
+/// Replaces a file by way of one at `beside`, which is removed if that fails.
+fn replace_or_remove<R: Files>(
+    rt: &R,
+    path: &str,
+    beside: &str,
+    bytes: &[u8],
+) -> Result<(), ReplaceFault> {
+    match replace_file(rt, path, beside, bytes) {
+        Ok(()) => Ok(()),
+        Err(fault) => {
+            let _ = fs::remove_file(rt, beside);
+            Err(ReplaceFault::Unwritten { fault })
+        }
+    }
 }
 
 impl<R: Files> FileReplacer for R {
-    fn replace(&self, path: &str, beside: &str, bytes: &[u8]) -> Result<(), FolderFault> {
-        replace_file(self, path, beside, bytes)
+    fn replace(&self, path: &str, beside: &str, bytes: &[u8]) -> Result<(), ReplaceFault> {
+        match (obstacle_at(self, path), obstacle_at(self, beside)) {
+            (None, None) => replace_or_remove(self, path, beside, bytes),
+            (Some(obstacle), _) | (None, Some(obstacle)) => {
+                Err(ReplaceFault::Obstructed { obstacle })
+            }
+        }
     }
 }
 
@@ -87,7 +144,7 @@ impl<'a> MetricsFile<'a> {
     ) -> Result<MetricsFile<'a>, AllocError> {
         Ok(MetricsFile {
             path,
-            beside: format!(in alloc; "{path}.tmp")?,
+            beside: path_beside(alloc, path)?,
             labels: WorkerLabels {
                 namespace: names.namespace.get(),
                 task_queue: names.task_queue.get(),
@@ -103,11 +160,11 @@ impl<'a> MetricsFile<'a> {
         metrics: Metrics,
     ) -> Option<&'static str> {
         let Ok(text) = exposed(rt.alloc(), self.labels, metrics) else {
-            return Some(words(FolderFault::OutOfMemory));
+            return Some(words_of(FolderFault::OutOfMemory));
         };
         match rt.replace(self.path, self.beside.as_str(), text.as_bytes()) {
             Ok(()) => None,
-            Err(fault) => Some(words(fault)),
+            Err(fault) => Some(fault.words()),
         }
     }
 }

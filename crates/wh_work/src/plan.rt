@@ -6,6 +6,7 @@ ghost use Rattle.wh_host.specs.Machine.{IsConfig};
 ghost use Rattle.wh_work.specs.Plans.{IsLivePlan, keeps_runs, live_config, sticky_of};
 ghost use Rattle.wh_work.specs.Policies.{ArePolicies, IsPlanFault};
 
+use crate::metrics_path::metrics_fault;
 use crate::policies::{PlanFault, policies_of};
 use std::alloc::Global;
 use std::rt::Files;
@@ -114,11 +115,33 @@ fn plan_with(
     })
 }
 
+/// How options ask to serve live tasks, if counts can be kept where they say.
+fn plan_of<R: Files + AllocGlobal>(rt: &R, options: WorkOptions) -> Result<LivePlan, PlanFault>
+    requires { IsWithinWorkLimits options }
+    ensures config { IfOk result (λ plan. IsConfig plan.config) }
+    ensures asked { IfOk result (IsLivePlan options) }
+    ensures fault { IfErr result (IsPlanFault options.metrics) }
+{
+    let policies = match policies_of(rt, &options) {
+        Ok(policies) => policies,
+        Err(fault) => {
+            drop(options);
+            return Err(fault);
+        }
+    };
+    match plan_with(rt.alloc(), options, policies) {
+        Ok(plan) => Ok(plan),
+        Err(OutOfMemory) => Err(PlanFault::OutOfMemory),
+    }
+}
+
 /// How options ask to serve live tasks: by a host with a seat for each worker, and with a cache if
-/// tasks of cached runs come by a sticky queue. Nothing is read but the file of the policies, if
-/// the options name one.
+/// tasks of cached runs come by a sticky queue. Nothing is read but what is at the path of the
+/// counts and beside it, and the file of the policies, if the options name them.
 ///
-/// `Unread` if that file can't be read, `BadPolicies` if it is too long, no UTF-8, no TOML, or
+/// `BadMetrics` if a link, a folder or something else that is no regular file is at the path of the
+/// counts, or at that with `.tmp` behind it, at which they are written first. Otherwise `Unread` if
+/// the file of the policies can't be read, `BadPolicies` if it is too long, no UTF-8, no TOML, or
 /// has a key that is not known or a bad value. `OutOfMemory` if there was no memory.
 pub fn live_plan<R: Files + AllocGlobal>(
     rt: &R,
@@ -127,11 +150,13 @@ pub fn live_plan<R: Files + AllocGlobal>(
     requires { IsWithinWorkLimits options }
     ensures config { IfOk result (λ plan. IsConfig plan.config) }
     ensures asked { IfOk result (IsLivePlan options) }
-    ensures fault { IfErr result IsPlanFault }
+    ensures fault { IfErr result (IsPlanFault options.metrics) }
 {
-    let policies = policies_of(rt, &options)?;
-    match plan_with(rt.alloc(), options, policies) {
-        Ok(plan) => Ok(plan),
-        Err(OutOfMemory) => Err(PlanFault::OutOfMemory),
+    match metrics_fault(rt, &options) {
+        Some(fault) => {
+            drop(options);
+            Err(fault)
+        }
+        None => plan_of(rt, options),
     }
 }

@@ -3,7 +3,7 @@
 ghost use Rattle.std.specs.Prelude.{IfErr, IfOk};
 ghost use Rattle.wh_command_line.specs.Options.{IsWithinWorkLimits};
 ghost use Rattle.wh_policy_file.specs.Policies.{IsRefused};
-ghost use Rattle.wh_work.specs.Policies.{AreOfFile, ArePolicies, IsPlanFault};
+ghost use Rattle.wh_work.specs.Policies.{AreOfFile, ArePolicies, IsPolicyFault};
 
 use std::alloc::{AllocError, Global};
 use std::rt::Files;
@@ -35,6 +35,12 @@ pub enum PlanFault {
         /// The file, and why not.
         bad: BadPolicies,
     },
+    /// What is at the path of the file of the counts, or at that at which they are written first,
+    /// is no regular file.
+    BadMetrics {
+        /// What is wrong with the path. The text ends its own line.
+        text: Text,
+    },
     /// There was no memory. This can come in place of every plan and of every fault.
     OutOfMemory,
 }
@@ -52,7 +58,7 @@ impl From<AllocError> for PlanFault {
 
 /// The bytes of the file at a path.
 fn bytes_at<R: Files + AllocGlobal>(rt: &R, path: &str) -> Result<Vec<u8>, PlanFault>
-    ensures { IfErr result IsPlanFault }
+    ensures { IfErr result IsPolicyFault }
 {
     let path = String::from_str(rt.alloc(), path)?;
     match read_input(rt, Origin::File { path }) {
@@ -65,7 +71,7 @@ fn bytes_at<R: Files + AllocGlobal>(rt: &R, path: &str) -> Result<Vec<u8>, PlanF
 /// That the file at a path gives no policies, since its bytes have a fault.
 fn bad_policies(alloc: Global, path: &str, bytes: &[u8], fault: PolicyFault) -> PlanFault
     requires { IsRefused bytes.now fault }
-    ensures { IsPlanFault result }
+    ensures { IsPolicyFault result }
 {
     let Ok(path) = String::from_str(alloc, path) else {
         drop(fault);
@@ -90,7 +96,7 @@ fn policies_at<R: Files + AllocGlobal>(
     attempts: u32,
 ) -> Result<Policies, PlanFault>
     ensures read { IfOk result (AreOfFile seconds attempts) }
-    ensures fault { IfErr result IsPlanFault }
+    ensures fault { IfErr result IsPolicyFault }
 {
     let bytes = bytes_at(rt, path)?;
     match read_policies(rt.alloc(), bytes.as_slice(), seconds, attempts) {
@@ -108,7 +114,7 @@ pub(crate) fn policies_of<R: Files + AllocGlobal>(
 ) -> Result<Policies, PlanFault>
     requires { IsWithinWorkLimits options.now }
     ensures read { IfOk result (ArePolicies options.now) }
-    ensures fault { IfErr result IsPlanFault }
+    ensures fault { IfErr result IsPolicyFault }
 {
     let seconds = options.activity_timeout as u32;
     let attempts = options.activity_attempts as u32;

@@ -98,6 +98,126 @@ fn progress_of<'a, R: Wait + Clock>(
     Ok(Some(progress))
 }
 
+/// Reports and keeps the counts of the end, if they are counted.
+fn note_end<R: Wait + Eprint + FileReplacer + AllocGlobal>(
+    progress: Option<&Progress<R>>,
+    end: &LiveEnd,
+) {
+    if let Some(progress) = progress {
+        progress.end(end);
+    }
+}
+
+/// Serves the tasks that come by these calls, as [`serve_calls`] does, with a worker for each cell.
+fn serve_cells<
+    W: Queryable + Send,
+    R: Threads + Wait + Clock + Eprint + FileReplacer + AllocGlobal + Sync,
+    C: Caller + Sync,
+    L: FnOnce() -> bool,
+    B: HeartbeatHandler + Send + Drop,
+    M: Fn() -> B,
+>(
+    rt: &R,
+    name: &str,
+    calls: &CountedCalls<C, R>,
+    listen: L,
+    make: &M,
+    plan: &LivePlan,
+    cells: &[Arc<ActivityCell>],
+) -> Result<LiveEnd, OutOfMemory>
+where
+    L: Drop,
+    requires sizes { IsConfig plan.now.config }
+    requires seats { length cells.now ≡ plan.now.config.seats }
+    requires listens { L.IsAlwaysCallable listen }
+    requires makes { M.IsAlwaysCallable make.now }
+    ensures served { IfOk result (AreServed plan.now.config plan.now.options plan.now.workers) }
+    ensures balanced { IfOk result (λ end.
+        end.totals.taken ≡ end.totals.completed + end.totals.failed + end.totals.in_hand) }
+{
+    let alloc = calls.allocator();
+    let crew = match crew_of(rt, alloc, calls, &plan.options.names, make, cells) {
+        Ok(crew) => crew,
+        Err(fault) => {
+            drop(listen);
+            return Err(fault);
+        }
+    };
+    if let Some(progress) = calls.progress {
+        progress.begin();
+    }
+    if !listen() {
+        drop(crew);
+        return Err(OutOfMemory);
+    }
+    let end = serve_live::<W, R, CountedCalls<C, R>, LiveHandler<B, R, C>, Watch<R>, Progress<R>>(
+        rt,
+        alloc,
+        name,
+        plan.config,
+        calls,
+        &plan.options,
+        plan.workers as usize,
+        crew,
+        cells,
+        calls.progress,
+    );
+    match end {
+        Ok(end) => {
+            note_end(calls.progress, &end);
+            Ok(end)
+        }
+        Err(OpenFault::OutOfMemory) => Err(OutOfMemory),
+        Err(OpenFault::BadConfig) => unreachable!(),
+    }
+}
+
+/// Serves the tasks that come by these calls, as [`serve_calls`] does, and counts them here.
+fn serve_counted<
+    W: Queryable + Send,
+    R: Threads + Wait + Clock + Eprint + FileReplacer + AllocGlobal + Sync,
+    C: Caller + Sync,
+    L: FnOnce() -> bool,
+    B: HeartbeatHandler + Send + Drop,
+    M: Fn() -> B,
+>(
+    rt: &R,
+    name: &str,
+    calls: &CountedCalls<C, R>,
+    listen: L,
+    make: &M,
+    plan: &LivePlan,
+) -> Result<LiveEnd, OutOfMemory>
+where
+    L: Drop,
+    requires sizes { IsConfig plan.now.config }
+    requires listens { L.IsAlwaysCallable listen }
+    requires makes { M.IsAlwaysCallable make.now }
+    ensures served { IfOk result (AreServed plan.now.config plan.now.options plan.now.workers) }
+    ensures balanced { IfOk result (λ end.
+        end.totals.taken ≡ end.totals.completed + end.totals.failed + end.totals.in_hand) }
+{
+    match cells_of(calls.allocator(), plan.config.seats) {
+        Ok(cells) => {
+            let end = serve_cells::<W, R, C, L, B, M>(
+                rt,
+                name,
+                calls,
+                listen,
+                make,
+                plan,
+                cells.as_slice(),
+            );
+            drop(cells);
+            end
+        }
+        Err(fault) => {
+            drop(listen);
+            Err(fault)
+        }
+    }
+}
+
 /// Starts to read what the bridge writes, by `listen`, which says whether it could, and serves the
 /// tasks that come by the calls until there are no more: by a host of the sizes of the plan, with a
 /// handler for each worker, which `make` makes, and which sends heartbeats over the same calls for
@@ -130,39 +250,21 @@ where
     ensures balanced { IfOk result (λ end.
         end.totals.taken ≡ end.totals.completed + end.totals.failed + end.totals.in_hand) }
 {
-    let alloc = calls.allocator();
-    let progress = progress_of(rt, alloc, name, &plan)?;
-    let progress = progress.as_ref();
-    let calls = CountedCalls { calls, progress };
-    let cells = cells_of(alloc, plan.config.seats)?;
-    let names = &plan.options.names;
-    let crew = crew_of(rt, alloc, &calls, names, make, cells.as_slice())?;
-    if let Some(progress) = progress {
-        progress.begin();
-    }
-    if !listen() {
-        return Err(OutOfMemory);
-    }
-    let end = serve_live::<W, R, CountedCalls<C, R>, LiveHandler<B, R, C>, Watch<R>, Progress<R>>(
-        rt,
-        alloc,
-        name,
-        plan.config,
-        &calls,
-        &plan.options,
-        plan.workers as usize,
-        crew,
-        cells.as_slice(),
-        progress,
-    );
-    match end {
-        Ok(end) => {
-            if let Some(progress) = progress {
-                progress.end(&end);
-            }
-            Ok(end)
+    match progress_of(rt, calls.allocator(), name, &plan) {
+        Ok(progress) => {
+            let counted = CountedCalls {
+                calls,
+                progress: progress.as_ref(),
+            };
+            let end = serve_counted::<W, R, C, L, B, M>(rt, name, &counted, listen, make, &plan);
+            drop(progress);
+            drop(plan);
+            end
         }
-        Err(OpenFault::OutOfMemory) => Err(OutOfMemory),
-        Err(OpenFault::BadConfig) => unreachable!(),
+        Err(fault) => {
+            drop(listen);
+            drop(plan);
+            Err(fault)
+        }
     }
 }

@@ -150,7 +150,9 @@ fn no_activity_is_known(rt: HostRuntime) {
     let alloc = rt.alloc();
     let task = activity_task(&rt, alloc, "8");
     let answer = NoActivities { alloc }.run(&task).expect(&rt, "memory");
-    wants(alloc, answer, "Failed(no activities)").expect(&rt, "no activities");
+    let wanted =
+        "Failed(ActivityFailure message: no activities, failure_type: Some(NotFoundError), retryable: false)";
+    wants(alloc, answer, wanted).expect(&rt, "no activities");
 }
 
 /// Workers side by side: the sizes of their host, their turns, their results, which are the fewest

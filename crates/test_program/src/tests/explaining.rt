@@ -3,7 +3,8 @@
 use std::alloc::Global;
 use std::process::Abort;
 use test_support::{bytes_of, same, with_status};
-use wh_report::{Format, explain_command};
+use wh_console::Format;
+use wh_explain_report::explain_command;
 use wh_sample_workflows::All;
 
 /// Histories, each with the lines of JSON below it.

@@ -6,7 +6,7 @@ use std::slice;
 use test_support::{bytes_of, row, same, with_status};
 use wh_events::Items;
 use wh_report::{Format, Record, report};
-use wh_tester::{Line, verdict};
+use wh_verdict::{Line, verdict};
 use wh_workflow::{Workflow, text_of};
 
 /// The record of a file with this line.

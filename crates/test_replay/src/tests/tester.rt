@@ -8,7 +8,7 @@ use wh_events::{EventNo, PlaceFault};
 use wh_json::ReadFault;
 use wh_replay::{Checked, Fault};
 use wh_report::{Format, Record, status_of, write_report};
-use wh_tester::{Line, Verdict};
+use wh_verdict::{Line, Verdict};
 use wh_workflow::{Mismatch, WorkflowFault, text_of};
 
 /// The faults of place.

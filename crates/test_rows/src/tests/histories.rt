@@ -3,7 +3,7 @@
 use std::alloc::Global;
 use std::test::Fail;
 use test_support::{bytes_of, same, shown};
-use wh_tester::verdict;
+use wh_verdict::verdict;
 use wh_workflow::Workflow;
 
 /// The table and the code give this verdict on a history, as text.

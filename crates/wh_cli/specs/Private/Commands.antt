@@ -1,28 +1,28 @@
 -- What a plan asks for, and what came of it.
-use Rattle.std.specs.Path.{path_file_name}
-use Rattle.std.specs.Prelude.{◌≡◌, ◌⊎◌, ℕ, List, [], ◌∷◌, codes, Bool, false, unwrap_or, if◌then◌else◌}
+use Rattle.std.specs.Prelude.{◌≡◌, ◌⊎◌, ℕ, List}
 use Rattle.wh_command_line.specs.Options.{sizes_of}
-use Rattle.wh_command_line.specs.Plans.{HasFewSlots, IsAskedBy, IsBadLine}
+use Rattle.wh_command_line.specs.Plans.{IsAskedBy}
 use Rattle.wh_command_line.specs.declared.command_line.Plan.{Plan}
 use Rattle.wh_command_line.specs.declared.command_line.Plan.TheVariants.{Replay, Explain, Page, View, Query, Check, Picture, Try, Serve, Work, Help}
 use Rattle.wh_command_line.specs.declared.work.WorkOptions.{WorkOptions}
 use Rattle.wh_console.specs.Consoles.{ConsoleView, IsQuiet, Reported}
 use Rattle.wh_crew.specs.declared.serving.LiveEnd.{LiveEnd}
-use Rattle.wh_diagnostics.specs.Diagnostics.{failed_text}
 use Rattle.wh_diagnostics.specs.Failures.{input_failure}
 use Rattle.wh_diagnostics.specs.Printing.{HasPrinted}
 use Rattle.wh_diagnostics.specs.declared.failures.Failure.{Failure}
-use Rattle.wh_diagnostics.specs.declared.failures.Failure.TheVariants.{BadLine, BadPolicies, FewSlots, Output}
+use Rattle.wh_diagnostics.specs.declared.failures.Failure.TheVariants.{BadLine, BadPolicies, Output}
 use Rattle.wh_diagnostics.specs.declared.failures.Failure.TheVariants.{OutOfMemory}
 use Rattle.wh_file_commands.specs.Explanations.{HasExplainedPath}
 use Rattle.wh_file_commands.specs.Pages.{HasPagedPath}
 use Rattle.wh_file_commands.specs.Queries.{HasQueriedPath}
 use Rattle.wh_file_commands.specs.Refusals.{IsRefused, IsUnqueriedPath, IsUnreportedPath, IsUnshownPath}
-use Rattle.wh_file_commands.specs.Replays.{HasNotReplayedPaths, HasReplayedPaths}
 use Rattle.wh_file_commands.specs.Views.{HasViewedPath}
+use Rattle.wh_program.specs.Endings.{HasFailed}
+use Rattle.wh_program.specs.Lines.{IsRefusedLine}
 use Rattle.wh_promise_findings.specs.Finds.{Finds}
 use Rattle.wh_query_report.specs.Inputs.{query_of}
 use Rattle.wh_queryable.specs.Queries.{Queries}
+use Rattle.wh_replay_command.specs.Replays.{HasNotReplayedPaths, HasReplayedPaths}
 use Rattle.wh_service_command.specs.Commands.{HasNotServedFolder, HasServedFolder}
 use Rattle.wh_table_commands.specs.Checks.{HasCheckedPaths, HasNotCheckedPaths}
 use Rattle.wh_table_commands.specs.Pictures.{HasDrawnPath}
@@ -86,46 +86,17 @@ pub record ObeysWords {S : Type 0} (program : Program S) (queries : Queries S) (
   pub asked : IsAskedBy words plan
   pub obeys : Obeys program queries lives types plan old new status
 
--- what a program at a path is called: the last part of the path, or `wfhost` if there is none
-abbrev pub name_of : List ℕ → List ℕ
-name_of path = unwrap_or (path_file_name path) (codes "wfhost")
-
--- what the program is called by its words: by the first of them, if there is one
-abbrev pub called : List (List ℕ) → List ℕ
-called [] = codes "wfhost"
-called (word ∷ words) = name_of word
-
--- the failure is that of a closed pipe: the standard output can't be written, since its reader closed it
-abbrev pub is_closed_pipe : Failure → Bool → Bool
-is_closed_pipe Output closed = closed
-is_closed_pipe _ closed = false
-
--- the text that says why there is no full report; none for the failure of a closed pipe
-abbrev pub no_report_text : Failure → Bool → List ℕ → List ℕ
-no_report_text failure closed name = if is_closed_pipe failure closed then [] else failed_text failure name
-
--- a failure was reported, unless it is that of a closed pipe, and the status is 2
-pub record HasFailed (failure : Failure) (old new : ConsoleView) (status : ℕ) : Type 0 where
-  pub reported : Reported old new (no_report_text failure new.closed)
-  pub ends : status ≡ 2
-
--- why there is no plan of these words: they are invalid, ask for fewer slots than workers, or there was no memory
-abbrev pub IsRefusedLine : List (List ℕ) → Failure → Type 0
-IsRefusedLine words (BadLine text) = IsBadLine words
-IsRefusedLine words FewSlots = HasFewSlots words
-IsRefusedLine words OutOfMemory = Unit {0}
-IsRefusedLine words _ = ⊥
-
 -- the failure if there is no plan to serve live tasks, by the fault
 abbrev pub plan_failure : PlanFault → Failure
 plan_failure (faults.Unread fault) = input_failure fault
 plan_failure (faults.BadPolicies bad) = BadPolicies bad.path bad.fault
+plan_failure (faults.BadMetrics text) = BadLine text
 plan_failure faults.OutOfMemory = OutOfMemory
 
 -- why work with live tasks has no report: there is no plan for it, by its fault, or there was no memory
-pub record IsWorkFailure (failure : Failure) : Type 0 where
+pub record IsWorkFailure (options : WorkOptions) (failure : Failure) : Type 0 where
   pub fault : PlanFault
-  pub is : IsPlanFault fault
+  pub is : IsPlanFault options.metrics fault
   pub gives : failure ≡ plan_failure fault
 
 -- the failures that a plan may end with; `IsUndone` says those of `replay`, `check` and `serve`
@@ -140,7 +111,7 @@ MayFailWith (Check file more format) failure = Unit {0}
 MayFailWith (Picture file) failure = IsUndrawnPath file failure
 MayFailWith (Try file scenario) failure = IsUntriedPath file scenario failure
 MayFailWith (Serve dir options required progress) failure = Unit {0}
-MayFailWith (Work options) failure = IsWorkFailure failure
+MayFailWith (Work options) failure = IsWorkFailure options failure
 MayFailWith (Help text) failure = failure ≡ Output
 
 -- what a plan asks for failed. Live work left the console as it was; an explanation and the help reported nothing; a

@@ -9,9 +9,9 @@ use Rattle.wh_replay.specs.declared.fault.Checked.{Checked}
 use Rattle.wh_replay.specs.declared.fault.Fault.{Fault}
 use Rattle.wh_replay.specs.Checks.{checked, ends_live}
 use Rattle.wh_replay.specs.Replays.{replay_after, replay_known, start, workflow_of}
-use Rattle.wh_tester.specs.declared.line.Verdict.{Verdict}
-use Rattle.wh_tester.specs.declared.line.Verdict.TheVariants.{Good, Faulty}
-use Rattle.wh_tester.specs.Verdicts.{judged, verdict_on}
+use Rattle.wh_verdict.specs.declared.line.Verdict.{Verdict}
+use Rattle.wh_verdict.specs.declared.line.Verdict.TheVariants.{Good, Faulty}
+use Rattle.wh_verdict.specs.Verdicts.{judged, verdict_on}
 use Rattle.wh_explain.specs.declared.explanation.Detail.{Detail}
 use Rattle.wh_explain.specs.declared.explanation.ExplainedTask.{ExplainedTask}
 use Rattle.wh_explain.specs.declared.findings.Finding.{Finding}

@@ -1,5 +1,5 @@
 -- What replay finds of tasks: how each ends, and why no other follows.
-use Rattle.std.specs.Prelude.{◌≡◌, ℕ, Bool, false, List, [], length, Option, Some, None, is_none, Result, Ok, Err}
+use Rattle.std.specs.Prelude.{◌≡◌, ◌++◌, ℕ, Bool, false, List, [], length, Option, Some, None, is_none, option_to_list, Result, Ok, Err}
 use Rattle.wh_events.specs.declared.event.Event.{Event}
 use Rattle.wh_events.specs.Cuts.{cuts}
 use Rattle.wh_workflow.specs.declared.command.Command.{Command}
@@ -92,6 +92,14 @@ module _ {S : Type 0} where
     pub stops_by : fault_of stop ≡ task_fault events context settled at task.steps
     pub differs_in : difference_in stop ≡ difference_at task.ending
     pub leaves : LeavesTask program state settled task left versions
+
+  -- what replay finds of a task, of which the explanation is added to those before it, if it is kept
+  pub record IsTaken (detail : Detail) (program : Program S) (events : List Event) (context : ActivationContext)
+      (told : List Job) (numbers : List ℕ) (at : ℕ) (state : S) (settled : Settled) (before after : List ExplainedTask)
+      (stop : Option Stop) (left : S) (versions : Settled) : Type 0 where
+    pub kept : Option ExplainedTask
+    pub found : IsTaskFinding detail program events context told numbers at state settled kept stop left versions
+    pub added : after ≡ before ++ option_to_list kept
 
   -- a replay has this fault, or none
   abbrev pub EndsBy : Result (ReplayResult S) Fault → Option Fault → Type 0

@@ -14,8 +14,8 @@ use Rattle.wh_tasks.specs.declared.source.ActivityAnswer.TheVariants.{Completed,
 abbrev pub IsActivityRequest : WorkerNames → List ℕ → ActivityAnswer → Bool → Request → Type 0
 IsActivityRequest names token (Completed outcome) was_canceled request =
     IsRequest request (codes "RespondActivityTaskCompleted") (activity_completed names token outcome)
-IsActivityRequest names token (Failed reason) was_canceled request =
-    IsFailedActivity names token reason was_canceled request
+IsActivityRequest names token (Failed failure) was_canceled request =
+    IsFailedActivity names token failure.message failure.failure_type failure.retryable was_canceled request
 
 -- the server returned a result for such an answer to the task of a token; it is sent as canceled only if the response
 -- to a heartbeat of that task said that it is to be

@@ -4,13 +4,13 @@ use Rattle.std.specs.List.{list_any}
 use Rattle.std.specs.Str.{bytes_eq}
 use Rattle.serde_json.specs.Data.{Data}
 use Rattle.wh_client.specs.Calls.{Gives}
-use Rattle.wh_client.specs.Codes.{keeps_run}
+use Rattle.wh_client.specs.Codes.{accepted_answer, keeps_run}
 use Rattle.wh_live.specs.Answers.{cause_of, receipt_of}
 use Rattle.wh_client.specs.Histories.{HandsOn}
 use Rattle.wh_client.specs.declared.asking.AskFault.{AskFault}
 use Rattle.wh_client.specs.declared.asking.AskFault.TheVariants as asked
 use Rattle.wh_client.specs.declared.codes.Receipt.{Receipt}
-use Rattle.wh_client.specs.declared.codes.Receipt.TheVariants.{Acknowledged, NoMemory, Replaced}
+use Rattle.wh_client.specs.declared.codes.Receipt.TheVariants.{NoMemory, Replaced}
 use Rattle.wh_client.specs.declared.codes.Status.{Status}
 use Rattle.wh_client.specs.declared.codes.Status.TheVariants as status
 use Rattle.wh_client.specs.declared.options.LiveOptions.{LiveOptions}
@@ -20,6 +20,7 @@ use Rattle.wh_commands.specs.CarryingOver.{Carried, continues, nothing_carried}
 use Rattle.wh_commands.specs.declared.names.WorkerNames.{WorkerNames}
 use Rattle.wh_requests.specs.declared.request.FailedCause.{FailedCause}
 use Rattle.wh_requests.specs.Requests.{workflow_completed, workflow_failed}
+use Rattle.wh_responses.specs.Completions.{is_discarded}
 use Rattle.wh_replay.specs.declared.run.Answer.{Answer}
 use Rattle.wh_replay.specs.declared.run.Answer.TheVariants.{Complete, Fail}
 use Rattle.wh_slots.specs.declared.TaskName.{TaskName}
@@ -30,7 +31,8 @@ use Rattle.wh_live.specs.declared.tasks.OpenTask.{OpenTask}
 
 -- ---- What is sent
 
--- the server returned a result for the completion of the task with these commands, and with what its run carries over
+-- the server returned a result for the completion of the task with these commands, and with what its run carries over;
+-- by that the task is not discarded
 pub record CompletesWith (gives : Gives) (options : LiveOptions) (task : OpenTask) (commands : List Command)
     (events : List Event) (carried : Carried) : Type 0 where
   pub params : Data
@@ -39,6 +41,7 @@ pub record CompletesWith (gives : Gives) (options : LiveOptions) (task : OpenTas
       ≡ Ok params
   pub result : Data
   pub given : gives (codes "RespondWorkflowTaskCompleted") params result
+  pub kept : is_discarded result ≡ false
 
 -- what a run carries over if it is continued as a new one: what its first event says
 abbrev pub IsCarried : Gives → WorkerNames → RunKey → Bool → Carried → Type 0
@@ -77,9 +80,9 @@ pub record AnswersOpen (gives : Gives) (options : LiveOptions) (open_task : Opti
 
 -- ---- What becomes of it
 
--- a result acknowledges an answer
-abbrev pub receipt_of_sent : {A : Type 0} → Result A AskFault → Receipt
-receipt_of_sent (Ok x) = Acknowledged
+-- what became of an answer that was sent: accepted, with whether the task is discarded, or not
+abbrev pub receipt_of_sent : Result Bool AskFault → Receipt
+receipt_of_sent (Ok is_discarded) = accepted_answer is_discarded
 receipt_of_sent (Err fault) = receipt_of fault
 
 -- the task was failed instead of answered, unless there was no memory
@@ -121,6 +124,6 @@ counts_fault (Some task) asked.TooManyPages = true
 counts_fault (Some task) (asked.History fault) = false
 counts_fault (Some task) asked.OutOfMemory = true
 
--- the run is cached if the server acknowledged the answer
+-- the run is cached if the server acknowledged the answer, and did not discard the task
 abbrev pub run_use : Receipt → RunUse
 run_use receipt = if keeps_run receipt then Cache else Discard

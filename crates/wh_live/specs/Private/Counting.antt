@@ -7,7 +7,7 @@ use Rattle.wh_client.specs.declared.codes.Receipt.{Receipt}
 use Rattle.wh_client.specs.declared.codes.Receipt.TheVariants as receipt
 use Rattle.wh_live.specs.declared.tallies.Tally.{Tally}
 use Rattle.wh_live.specs.declared.tasks.Brought.{Brought}
-use Rattle.wh_live.specs.declared.tasks.Brought.TheVariants.{Task, Empty, Settled}
+use Rattle.wh_live.specs.declared.tasks.Brought.TheVariants.{Task, Empty, Settled, Lost}
 use Rattle.wh_live.specs.Private.Polls.{end_of}
 
 -- one more, at most 2^64 - 1
@@ -30,9 +30,14 @@ with_failure is_fault tally =
       faults = if is_fault then one_more tally.faults else tally.faults;
     }
 
+-- the tally after a task that was given up
+abbrev pub with_lost_task : Tally → Tally
+with_lost_task tally = record tally { faults = one_more tally.faults }
+
 -- the tally after an answer: those are counted whose task was over, or failed by the server
 abbrev pub with_answer : Receipt → Tally → Tally
 with_answer receipt.Acknowledged tally = tally
+with_answer receipt.Discarded tally = tally
 with_answer receipt.NotFound tally = record tally { not_found = one_more tally.not_found }
 with_answer receipt.Invalid tally = record tally { refused = one_more tally.refused }
 with_answer receipt.Withheld tally = tally
@@ -45,6 +50,7 @@ with_answer receipt.NoMemory tally = tally
 -- memory, and a lost one is a fault
 abbrev pub settled : Receipt → Tally → Tally
 settled receipt.Acknowledged tally = tally
+settled receipt.Discarded tally = tally
 settled receipt.NotFound tally = record tally { not_found = one_more tally.not_found }
 settled receipt.Invalid tally = record tally { refused = one_more tally.refused }
 settled receipt.Withheld tally = tally
@@ -65,4 +71,5 @@ abbrev pub with_brought : {A : Type 0} → Result (Brought A) AskFault → Tally
 with_brought (Ok (Task task)) tally = with_poll false tally
 with_brought (Ok Empty) tally = with_poll true tally
 with_brought (Ok Settled) tally = with_poll false tally
+with_brought (Ok (Lost text)) tally = with_lost_task (with_poll false tally)
 with_brought (Err fault) tally = with_end (end_of fault) tally

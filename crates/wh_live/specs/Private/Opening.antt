@@ -1,15 +1,21 @@
 -- Tasks that were opened, and are to be answered.
-use Rattle.std.specs.Prelude.{◌≡◌, ◌⊎◌, ℕ, Bool, List, [], Option, Some, None, option_map, Result, Ok, Err, IfOk, IsSomeAnd, if◌then◌else◌}
+use Rattle.std.specs.Prelude.{◌≡◌, ◌⊎◌, ⊤, ℕ, Bool, List, [], Option, Some, None, option_map, Result, Ok, Err, IfOk, IsSomeAnd, if◌then◌else◌}
+use Rattle.serde_json.specs.Data.{Data}
 use Rattle.wh_client.specs.Calls.{Gives}
+use Rattle.wh_client.specs.Histories.{CanNotBeRead, HasAllMembers}
 use Rattle.wh_client.specs.Polls.{IsActivityPoll, IsWorkflowPoll}
+use Rattle.wh_client.specs.declared.asking.AskFault.{AskFault}
+use Rattle.wh_client.specs.declared.asking.AskFault.TheVariants as asked
 use Rattle.wh_events.specs.declared.event.Event.{Event}
 use Rattle.wh_events.specs.declared.key.RunKey.{RunKey}
+use Rattle.wh_json.specs.declared.fault.ReadFault.{ReadFault}
 use Rattle.wh_live.specs.Deliveries.{HasKept, IsActivityOf, IsTaskOf, later_in}
 use Rattle.wh_live.specs.declared.tasks.Brought.{Brought}
 use Rattle.wh_live.specs.declared.tasks.Brought.TheVariants as brought
 use Rattle.wh_live.specs.declared.tasks.OpenTask.{OpenTask}
 use Rattle.wh_responses.specs.declared.response.PolledActivity.{PolledActivity}
 use Rattle.wh_commands.specs.declared.names.WorkerNames.{WorkerNames}
+use Rattle.wh_responses.specs.declared.response.ActivityPoll.{ActivityPoll}
 use Rattle.wh_responses.specs.declared.response.ActivityPoll.TheVariants as ActivityPoll
 use Rattle.wh_responses.specs.Responses.{Task}
 use Rattle.wh_responses.specs.Responses as read
@@ -27,6 +33,81 @@ abbrev pub OnTask : {A : Type 0} → (A → Type 0) → Brought A → Type 0
 OnTask p (brought.Task task) = p task
 OnTask p brought.Empty = Unit {0}
 OnTask p brought.Settled = Unit {0}
+OnTask p (brought.Lost text) = Unit {0}
+
+-- the members of a history are malformed
+abbrev pub AreMalformed : List Data → Type 0
+AreMalformed members = (fault : ReadFault) × CanNotBeRead members (asked.History fault)
+
+-- what the members of a task's history may bring: it is settled only if they are malformed, and never an empty poll
+abbrev pub MayRead : {A : Type 0} → List Data → Brought A → Type 0
+MayRead members (brought.Task task) = ⊤
+MayRead members brought.Empty = ⊥
+MayRead members brought.Settled = AreMalformed members
+MayRead members (brought.Lost text) = ⊤
+
+-- the history of a task, with all its pages, is malformed
+pub record IsMalformed (gives : Gives) (names : WorkerNames) (polled : Task) : Type 0 where
+  pub members : List Data
+  pub all : HasAllMembers gives names polled.run polled.next_page polled.members members
+  pub are : AreMalformed members
+
+-- what a task that a poll returned may bring: it is settled only if its history is malformed, and never an empty poll
+abbrev pub MayOpen : {A : Type 0} → Gives → WorkerNames → Task → Brought A → Type 0
+MayOpen gives names polled (brought.Task task) = ⊤
+MayOpen gives names polled brought.Empty = ⊥
+MayOpen gives names polled brought.Settled = IsMalformed gives names polled
+MayOpen gives names polled (brought.Lost text) = ⊤
+
+-- what a poll for workflow tasks may bring: without a task it is empty, a query is settled, and a result that can't be
+-- read brings nothing
+abbrev pub MayBring : {A : Type 0} → Gives → WorkerNames → read.Poll → Brought A → Type 0
+MayBring gives names read.nothing brings = brings ≡ brought.Empty
+MayBring gives names (read.task polled) brings = MayOpen gives names polled brings
+MayBring gives names (read.query token result) brings = brings ≡ brought.Settled
+MayBring gives names read.unreadable brings = ⊥
+
+-- the poll of a queue got a result that may bring this
+pub record IsBrought {A : Type 0} (gives : Gives) (names : WorkerNames) (sticky : Bool)
+    (brings : Brought A) : Type 0 where
+  pub poll : read.Poll
+  pub given : IsWorkflowPoll gives names sticky poll
+  pub may : MayBring gives names poll brings
+
+-- a task is brought
+abbrev pub IsTask : {A : Type 0} → Brought A → Type 0
+IsTask (brought.Task task) = ⊤
+IsTask brought.Empty = ⊥
+IsTask brought.Settled = ⊥
+IsTask (brought.Lost text) = ⊥
+
+-- what a poll for activity tasks may bring: without a task it is empty, and a result that can't be read brings nothing
+abbrev pub MayBringActivity : {A : Type 0} → ActivityPoll → Brought A → Type 0
+MayBringActivity ActivityPoll.Nothing brings = brings ≡ brought.Empty
+MayBringActivity (ActivityPoll.Task polled) brings = IsTask brings
+MayBringActivity ActivityPoll.Unreadable brings = ⊥
+
+pub record IsBroughtActivity {A : Type 0} (gives : Gives) (names : WorkerNames) (brings : Brought A) : Type 0 where
+  pub poll : ActivityPoll
+  pub given : IsActivityPoll gives names poll
+  pub may : MayBringActivity poll brings
+
+-- a task is given up, and what is to be reported of it is brought
+abbrev pub IsLost : {A : Type 0} → Brought A → Type 0
+IsLost (brought.Task task) = ⊥
+IsLost brought.Empty = ⊥
+IsLost brought.Settled = ⊥
+IsLost (brought.Lost text) = ⊤
+
+-- a task that a poll returned is not opened, and nothing is said of it: the bridge has closed, or there was no memory
+abbrev pub IsSilent : AskFault → Type 0
+IsSilent asked.Closed = ⊤
+IsSilent asked.Output = ⊥
+IsSilent (asked.Refused status code message) = ⊥
+IsSilent asked.Unreadable = ⊥
+IsSilent asked.TooManyPages = ⊥
+IsSilent (asked.History fault) = ⊥
+IsSilent asked.OutOfMemory = ⊤
 
 -- a task is answered with its token, in its attempt, and under the name under which it is delivered, which is the id of
 -- the poll

@@ -6,7 +6,7 @@ use Rattle.wh_client.specs.declared.asking.AskFault.TheVariants as asked
 use Rattle.wh_client.specs.declared.codes.PollEnd.{PollEnd}
 use Rattle.wh_client.specs.declared.codes.PollEnd.TheVariants.{Closed, Never, Later}
 use Rattle.wh_live.specs.declared.tasks.Brought.{Brought}
-use Rattle.wh_live.specs.declared.tasks.Brought.TheVariants.{Task, Empty, Settled}
+use Rattle.wh_live.specs.declared.tasks.Brought.TheVariants.{Task, Empty, Settled, Lost}
 use Rattle.wh_live.specs.declared.troubles.Trouble.{Trouble}
 use Rattle.wh_live.specs.Private.Troubles.{HasFailed}
 use Rattle.wh_tasks.specs.declared.source.Polled.{Polled}
@@ -40,13 +40,22 @@ WaitsAfter Closed old new = new ≡ old
 WaitsAfter Later old new = FailsOnceMore old new
 WaitsAfter Never old new = FailsOnceMore old new
 
--- a poll with a result ends the row of failed polls
+-- a poll with a result ends the row of failed polls, unless its task is given up: then one more has failed
 abbrev pub WaitsFor : {A : Type 0} → Result (Brought A) AskFault → Trouble → Trouble → Type 0
-WaitsFor (Ok brought) old new = HasFailed 0 new
+WaitsFor (Ok (Task task)) old new = HasFailed 0 new
+WaitsFor (Ok Empty) old new = HasFailed 0 new
+WaitsFor (Ok Settled) old new = HasFailed 0 new
+WaitsFor (Ok (Lost text)) old new = FailsOnceMore old new
 WaitsFor (Err fault) old new = WaitsAfter (end_of fault) old new
 
--- a task is delivered; an empty or settled poll has none
+-- a task is delivered; an empty or settled poll has none, nor one whose task is given up
 abbrev pub polled_of : {A : Type 0} → Brought A → Polled A
 polled_of (Task task) = polled.Task task
 polled_of Empty = polled.Nothing
 polled_of Settled = polled.Nothing
+polled_of (Lost text) = polled.Nothing
+
+-- what the source reports for the result of a poll
+abbrev pub Reports : {A : Type 0} → Result (Brought A) AskFault → Result (Polled A) SourceFault → Type 0
+Reports (Ok brought) result = result ≡ Ok (polled_of brought)
+Reports (Err fault) result = EndsPoll (end_of fault) result

@@ -4,12 +4,14 @@ use Rattle.wh_slots.specs.declared.TaskName.{TaskName}
 use Rattle.wh_slots.specs.declared.ReserveFault.{ReserveFault}
 use Rattle.wh_slots.specs.declared.ReserveFault.TheVariants.{NoSlot as NoSlotIsFree, Draining as HostDrains, NumbersSpent as NoNumberIsLeft}
 use Rattle.wh_events.specs.declared.event.Event.{Event}
+use Rattle.wh_events.specs.declared.memory.OutOfMemory.{OutOfMemory as NoMemoryLeft}
 use Rattle.wh_replay.specs.declared.fault.Fault.{Fault}
 use Rattle.wh_replay.specs.declared.run.Answer.{Answer}
 use Rattle.wh_workflow.specs.Law.{Program}
 use Rattle.wh_replay.specs.Runs.{Held}
 use Rattle.wh_host.specs.declared.reply.Outcome.{Outcome}
 use Rattle.wh_host.specs.declared.reply.Outcome.TheVariants.{Failed}
+use Rattle.wh_tasks.specs.declared.source.Acceptance.{Acceptance}
 use Rattle.wh_tasks.specs.declared.source.SourceFault.{SourceFault}
 use Rattle.wh_tasks.specs.declared.source.WorkflowTask.{WorkflowTask}
 use Rattle.wh_tasks.specs.declared.source.ActivityTask.{ActivityTask}
@@ -83,6 +85,20 @@ SendsAnswer stepped fault name old new (Ok outcome) =
     × (new ≡ old ++ (name, OfWorkflow answer) ∷ [])
 SendsAnswer stepped fault name old new (Err unsent) = new ≡ old
 
+-- the source was sent the answer after a replay, with the events of the run that it returned, or with none
+abbrev pub IsShown : {S : Type 0} → (Answer → List Event → Acceptance → S → Type 0) → Option Held → Option Fault → S
+    → Type 0
+IsShown hears stepped fault source =
+    (answer : Answer) × ((acceptance : Acceptance)
+    × IsAnswer stepped fault answer × hears answer (held_by stepped) acceptance source)
+
+-- so it was, unless there was no memory for the answer
+abbrev pub Shows : {S : Type 0} → (Answer → List Event → Acceptance → S → Type 0) → Option Held → Option Fault → S
+    → Result Outcome StepFault → Type 0
+Shows hears stepped fault source (Err OutOfMemory) = Unit {0}
+Shows hears stepped fault source (Err (Source refused)) = IsShown hears stepped fault source
+Shows hears stepped fault source (Ok outcome) = IsShown hears stepped fault source
+
 -- the one answer to an activity task, which the handler may give, was sent, or none
 abbrev pub SendsActivity : Answerable → ActivityTask → Answers → Answers → Result Outcome StepFault → Type 0
 SendsActivity may task old new (Ok outcome) =
@@ -91,6 +107,13 @@ SendsActivity may task old new (Ok outcome) =
     × (activity_outcome answer ≡ outcome)
     × (new ≡ old ++ (task.name, OfActivity answer) ∷ [])
 SendsActivity may task old new (Err fault) = new ≡ old
+
+-- the handler ran once for the task, and the outcome, if its answer was sent, is that of the answer which the run gave
+abbrev pub RunsOnce : {A : Type 0} → (Result ActivityAnswer NoMemoryLeft → A → Type 0) → A
+    → Result Outcome StepFault → Type 0
+RunsOnce ran handler (Ok outcome) =
+    (answer : ActivityAnswer) × ran (Ok answer) handler × (activity_outcome answer ≡ outcome)
+RunsOnce ran handler (Err fault) = (given : Result ActivityAnswer NoMemoryLeft) × ran given handler
 
 -- the result of serving a task that got no answer, by the reason
 abbrev pub unanswered : TaskName → StepFault → Result Served SourceFault

@@ -2,7 +2,7 @@
 use Rattle.std.specs.Prelude.{◌≡◌, ℕ, List}
 use Rattle.wh_json.specs.Events.{history}
 use Rattle.wh_workflow.specs.Law.{Program}
-use Rattle.wh_tester.specs.Verdicts.{IsVerdict}
+use Rattle.wh_verdict.specs.Verdicts.{IsVerdict}
 use Rattle.wh_explain.specs.declared.findings.Finding.{Finding}
 use Rattle.wh_explain.specs.Differences.{IsDifferenceIn}
 use Rattle.wh_explain.specs.Explaining.{unknown_in}

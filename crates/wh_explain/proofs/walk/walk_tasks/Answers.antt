@@ -31,14 +31,15 @@ returns-in-Some-stop g c =
     let at = c.loop-cut in
     let cut = c.in-Some.cut in
     let number : ℕ = cut.number in
-    let found = c.in_ok-found.found in
-    let f = c.in_ok-found.ensures in
+    let taken = c.in_ok-taken.taken in
+    let t = c.in_ok-taken.ensures in
+    let f = t.found in
     let is = c.in-Some.ensures.some in
     let n : IsNext track at.last number = next_is track at.last number c.len-proof_in_place.ensures.in_place at.invariant.low (ap first_of is.first) in
     let here = task_here program track at.last cut at.left.state at.left.versions f.task is f.explained in
-    let fault = fault_here track at.last cut at.left.versions f.task found.stop is f.stops_by in
+    let fault = fault_here track at.last cut at.left.versions f.task taken.stop is f.stops_by in
     let some = c.in-Some-stop.is in
-    walk_stopped program lawful track c.args.left.state c.args.left.versions c.args.detail c.stopped.result c.in-Some-stop.stop at.tasks.items c.add_task.new.tasks.items found.task at.last number at.left.state at.left.versions f.task c.stopped.ensures.tasks c.in_ok-add_task.ensures (rw some at c.stopped.ensures.stop)
+    walk_stopped program lawful track c.args.left.state c.args.left.versions c.args.detail c.stopped.result c.in-Some-stop.stop at.tasks.items c.take_task.new.tasks.items t.kept at.last number at.left.state at.left.versions f.task c.stopped.ensures.tasks t.added (rw some at c.stopped.ensures.stop)
     at.invariant.tasks at.invariant.replay n is.first here f.keeps (sym (ap fault_of some) ∙ fault) (sym (ap difference_in some) ∙ f.differs_in)
 
 pub loop-cut-smaller : goal.loop-cut-smaller
@@ -56,32 +57,33 @@ loop-cut-preserved g c =
     let cut = c.in-Some.cut in
     let number : ℕ = cut.number in
     let kept : c.get-last.result ≡ number = c.get-last.ensures.kept in
-    let found = c.in_ok-found.found in
-    let f = c.in_ok-found.ensures in
+    let taken = c.in_ok-taken.taken in
+    let t = c.in_ok-taken.ensures in
+    let f = t.found in
     let is = c.in-Some.ensures.some in
     let n : IsNext track at.last number = next_is track at.last number c.len-proof_in_place.ensures.in_place at.invariant.low (ap first_of is.first) in
     let recorded = ap (λ (k : ActivationContext). k.recorded) is.context in
     let more : length (cuts (drop at.last track)) ≡ suc (length (cuts (drop c.get-last.result track))) = rw kept (ap length n.counts) in
     let none : c.is_none-live.result ≡ is_none cut.span = search rules in
     let here = task_here program track at.last cut at.left.state at.left.versions f.task is f.explained in
-    let fault = fault_here track at.last cut at.left.versions f.task found.stop is f.stops_by in
+    let fault = fault_here track at.last cut at.left.versions f.task taken.stop is f.stops_by in
     let stop = c.in_default-stop.is in
     let free = sym (ap fault_of stop) ∙ fault in
     let alike = sym (ap difference_in stop) ∙ f.differs_in in
     let passes = sym (task_stops program track at.last number at.left.state at.left.versions f.task here) ∙ ap is_some (sym free) in
     let leaves = f.leaves passes in
-    let P : ℕ → Type 0 = λ k. AreDone program track c.args.left.state c.args.left.versions c.args.detail c.add_task.new.tasks.items k found.left.state found.left.versions in
-    let Q : ℕ → Type 0 = λ k. HasReached program track c.args.left.state c.args.left.versions k found.left.state found.left.versions in
+    let P : ℕ → Type 0 = λ k. AreDone program track c.args.left.state c.args.left.versions c.args.detail c.take_task.new.tasks.items k taken.left.state taken.left.versions in
+    let Q : ℕ → Type 0 = λ k. HasReached program track c.args.left.state c.args.left.versions k taken.left.state taken.left.versions in
     record {
       low = omega (arith, n.within, kept);
       few = omega (arith, at.invariant.few, n.past, kept);
       counted = omega (arith, at.invariant.counted, more);
       lives = rw kept (lives_span track at.last number at.live n (λ span. commanded (span_events cut.track.now span)) cut.span (record_of (drop number track)) recorded c.is_none-live.result none ∙ at.invariant.lives);
       tasks = subst P (sym kept)
-          (done_more program lawful track c.args.left.state c.args.left.versions c.args.detail at.tasks.items c.add_task.new.tasks.items found.task at.last number at.left.state found.left.state at.left.versions found.left.versions f.task c.in_ok-add_task.ensures
+          (done_more program lawful track c.args.left.state c.args.left.versions c.args.detail at.tasks.items c.take_task.new.tasks.items t.kept at.last number at.left.state taken.left.state at.left.versions taken.left.versions f.task t.added
           at.invariant.tasks is.first here f.keeps free alike f.leaves);
       replay = subst Q (sym kept)
-          (reaches program lawful track c.args.left.state c.args.left.versions at.last number at.left.state found.left.state at.left.versions found.left.versions f.task at.invariant.replay n here free leaves.0 leaves.1);
+          (reaches program lawful track c.args.left.state c.args.left.versions at.last number at.left.state taken.left.state at.left.versions taken.left.versions f.task at.invariant.replay n here free leaves.0 leaves.1);
     }
 
 pub returns : goal.returns

@@ -3,8 +3,8 @@ use Rattle.std.specs.Io.KnownBytes.{Appends}
 use Rattle.std.proofs.KnownBytes.{Appends-trans}
 use Rattle.std.proofs.lemmas.Result.{on_ok_weaker}
 use Rattle.wh_explain.specs.Differences.{last_difference}
-use Rattle.wh_explain_report.specs.Json.{difference_members}
-use Rattle.wh_explain_report.proofs.Lines.{open_and_closed}
+use Rattle.wh_phrases.specs.Json.{difference_members}
+use Rattle.wh_phrases.proofs.Lines.{open_and_closed}
 use Rattle.wh_explain_report.proofs.json_lines.write_last.Goals as goal
 
 -- the line is open first, and the difference closes it

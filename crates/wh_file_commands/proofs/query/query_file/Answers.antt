@@ -11,9 +11,9 @@ pub returns-clause-queried : goal.returns-clause-queried
 returns-clause-queried g c =
     let own = c.in-Ok in
     query_ended g.W.Workflow.program g.W.Queryable.queries c.args.types.now c.args.file c.args.query.now c.args.format
-    c.args.console.now c.print_query.new.console c.flushed-2.new.console c.report.new.self c.report-2.new.self own.queried (Ok c.status_of.result) c.status_of.result c.in_ok-status.status
-    own.ensures.queried own.ensures.printed c.in_ok-status.ensures.quiet c.in_ok-status.ensures.kept
-    c.report.ensures (subst (λ lacking. Reported c.report.new.self c.report-2.new.self (known_types_text c.args.types.now lacking)) c.lacks_code-lacking.ensures.lacks c.report-2.ensures) c.status_of.ensures refl c.in_ok-status.ensures.status
+    c.args.console.now c.print_query.new.console c.flushed-2.new.console c.report.new.self c.report-2.new.self own.queried (Ok c.status_of.result) c.status_of.result c.in-Ok-flushed.status
+    own.ensures.queried own.ensures.printed c.in-Ok-flushed.ensures.quiet c.in-Ok-flushed.ensures.kept
+    c.report.ensures (subst (λ lacking. Reported c.report.new.self c.report-2.new.self (known_types_text c.args.types.now lacking)) c.lacks_code-lacking.ensures.lacks c.report-2.ensures) c.status_of.ensures refl c.in-Ok-flushed.ensures.status
 
 -- or there is nothing to write, or it can't be written
 pub returns-in-Err-clause-refused : goal.returns-in-Err-clause-refused

@@ -1,6 +1,6 @@
 use Rattle.std.proofs.Common.{ap, subst}
 use Rattle.std.specs.Prelude.{is_ok, string_bytes}
-use Rattle.wh_report.specs.Commands.{view_as}
+use Rattle.wh_explain_report.specs.Explained.{view_as}
 use Rattle.wh_diagnostics.proofs.Printed.{text_printed}
 use Rattle.wh_diagnostics.proofs.Printed.{writer_failed}
 use Rattle.wh_file_commands.proofs.Refused.{output_failed}

@@ -1,5 +1,4 @@
 use Rattle.std.proofs.Common.{ap, sym, ◌∙◌, ◌+◌, ◌++◌, drop}
-use Rattle.std.specs.Prelude.{option_to_list}
 use Rattle.wh_table_text.specs.Numbered.{numbered}
 use Rattle.wh_table_text.specs.Faults.{breaks}
 use Rattle.wh_table_text.proofs.Places.{numbered_on, numbered_all}

@@ -1,0 +1,111 @@
+//! The program `wfhost` with the command `replay` alone.
+#![tactic(auto)]
+
+ghost use Rattle.std.specs.Prelude.{◌≡◌, IfErr, IfOk, map, string_bytes};
+ghost use Rattle.wfhost_replay.specs.Commands.{IsUndone, Obeys};
+ghost use Rattle.wh_program.specs.Answers.{Answers, AskForNothing};
+
+use std::io::Write;
+use std::process::ExitCode;
+use std::rt::Runtime;
+use std::thread::Threads;
+use wh_command_line::Plan;
+use wh_console::{Console, ErrorPrinter};
+use wh_diagnostics::{Failure, print};
+use wh_program::{UNCALLED, called, fail, fail_under, lack, output, plan, words};
+use wh_registered::{Registered, TYPES};
+use wh_replay_command::replay_paths;
+use wh_workflow::Workflow;
+
+/// What the commands are called.
+const COMMANDS: &str = "the command replay";
+
+/// Does what a plan asks for, and returns the status, or why there is no full report. If the
+/// program lacks the command, it reports which it has.
+fn obey<W: Workflow + Send, R: Runtime + AllocGlobal + Threads + Sync, O: Write, E: Write>(
+    rt: &R,
+    types: &str,
+    plan: Plan,
+    console: &mut Console<'_, O, E>,
+) -> Result<u8, Failure>
+where
+    R::File: Send,
+    R::Dir: Send,
+    ensures obeys { IfOk result (Obeys W.program types.now plan console.old console.new) }
+    ensures stopped { IfErr result (IsUndone W.program plan console.old console.new) }
+{
+    match plan {
+        Plan::Replay {
+            dir,
+            more,
+            format,
+            require_files,
+            strict_values,
+            progress,
+        } => replay_paths::<W, R, O, E>(
+            rt,
+            dir,
+            more,
+            format,
+            require_files,
+            strict_values,
+            progress,
+            types,
+            console,
+        ),
+        Plan::Help { text } => print(text.get(), console),
+        _ => Ok(lack(COMMANDS, console)),
+    }
+}
+
+/// Does what the words of the command line ask for, or reports why there is no full report, and
+/// returns the status.
+fn answer<W: Workflow + Send, R: Runtime + AllocGlobal + Threads + Sync, O: Write, E: Write>(
+    rt: &R,
+    types: &str,
+    words: &[String],
+    console: &mut Console<'_, O, E>,
+) -> u8
+where
+    R::File: Send,
+    R::Dir: Send,
+    ensures { Answers (Obeys W.program types.now) (IsUndone W.program) (map string_bytes words.now)
+        console.old console.new result }
+{
+    match plan(rt.alloc(), types, words) {
+        Ok(plan) => match obey::<W, R, O, E>(rt, types, plan, console) {
+            Ok(status) => status,
+            Err(failure) => fail(failure, console),
+        },
+        Err(failure) => fail(failure, console),
+    }
+}
+
+/// Does what the words of the command line ask for, with the standard streams, and returns the
+/// status.
+fn run_words<W: Workflow + Send, R: Runtime + AllocGlobal + Threads + Sync>(
+    rt: &R,
+    words: &[String],
+) -> u8
+where
+    R::File: Send,
+    R::Dir: Send,
+    ensures { AskForNothing (map string_bytes words.now) → result ≡ 2 }
+{
+    let name = called(words);
+    match output(rt) {
+        Ok(output) => {
+            let mut console = Console::new(name, output, ErrorPrinter::new(rt));
+            answer::<W, R, _, _>(rt, TYPES, words, &mut console)
+        }
+        Err(failure) => fail_under(rt, name, failure),
+    }
+}
+
+fn main(rt: HostRuntime) -> ExitCode {
+    let status = match words(&rt) {
+        Ok(words) => run_words::<Registered, HostRuntime>(&rt, words.as_slice()),
+        Err(failure) => fail_under(&rt, UNCALLED, failure),
+    };
+    ExitCode::from(status)
+}

@@ -1,5 +1,0 @@
-use Rattle.std.proofs.Common.{rules}
-use Rattle.wh_explain.proofs.pairing.pairing_of.Goals as goal
-
-pub returns-else-alike : goal.returns-else-alike
-returns-else-alike c = search rules

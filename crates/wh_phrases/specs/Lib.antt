@@ -1,0 +1,5 @@
+pub mod Times
+pub mod Phrases
+pub mod Sides
+pub mod Json
+pub mod Private

@@ -1,0 +1,118 @@
+-- What replay wrote and reported, one step after the other.
+use Rattle.std.proofs.Common.{◌≡◌, ◌∙◌, inr, ℕ, List, ◌∷◌, refl, sym, ap, subst}
+use Rattle.std.specs.Prelude.{Bool, Option, Result, Ok, Err, IfErr, IfOk, OnOk}
+use Rattle.std.specs.Io.KnownBytes.{Keeps}
+use Rattle.std.specs.Result.{IsErrAnd}
+use Rattle.wh_console.proofs.Printing.{printed_kept}
+use Rattle.wh_console.specs.Consoles.{ConsoleView, IsQuiet, Printed, Reported}
+use Rattle.wh_console.specs.declared.format.Format.{Format}
+use Rattle.wh_diagnostics.proofs.ReadFailures.{input_fails_to_read, unread_unreported}
+use Rattle.wh_diagnostics.specs.Diagnostics.{records_lines}
+use Rattle.wh_diagnostics.specs.Failures.{input_failure, IsReportFailure}
+use Rattle.wh_diagnostics.specs.Printing.{status_with}
+use Rattle.wh_diagnostics.specs.declared.failures.Failure.{Failure}
+use Rattle.wh_diagnostics.specs.declared.failures.Failure.TheVariants.{Output}
+use Rattle.wh_file_faults.specs.declared.command_fault.CommandFault.{CommandFault}
+use Rattle.wh_files.specs.Inputs.{IsReadFrom}
+use Rattle.wh_files.specs.declared.Input.{Input}
+use Rattle.wh_files.specs.declared.InputFault.{InputFault}
+use Rattle.wh_files.specs.declared.InputFault.TheVariants as input_faults
+use Rattle.wh_inputs.specs.Listings.{AreListed, is_by_path, lacks_files}
+use Rattle.wh_inputs.specs.Readings.{Gives, IsReadAs}
+use Rattle.wh_progress.proofs.Batched.{whole_after_all}
+use Rattle.wh_progress.specs.Batches.{reports_of, HasStoppedWhole}
+use Rattle.wh_progress.specs.Modes.{mode_by}
+use Rattle.wh_progress.specs.declared.mode.ProgressMode.{ProgressMode}
+use Rattle.wh_replay_command.specs.Batches.{faulty_of}
+use Rattle.wh_replay_command.specs.Replays.{HasNotReplayed, HasNotReplayedPaths, HasReplayed, HasReplayedPaths, HasReported}
+use Rattle.wh_replay_command.proofs.Batched.{as_many}
+use Rattle.wh_report.specs.Records.{AreRecordsOf}
+use Rattle.wh_report.specs.Reports.{records_status, report_as}
+use Rattle.wh_report.specs.declared.records.Record.{Record}
+use Rattle.wh_workflow.specs.Law.{Program}
+
+-- a report was printed, and once it was out the rest was reported
+pub report_ended : (records seen : List Record) (format : Format) (lacks : Bool) (old first between new : ConsoleView) (answer : Result ℕ CommandFault) (own status : ℕ)
+    → seen ≡ records
+    → OnOk answer (Printed old first (report_as format seen)) → IfOk answer (λ status. status ≡ records_status seen)
+    → IsQuiet first between → Keeps first.output between.output → answer ≡ Ok own
+    → Reported between new (records_lines records) → status ≡ status_with lacks own
+    → HasReported records format lacks old new status
+report_ended records seen format lacks old first between new (Ok given) own status same printed ends quiet kept is reported given_status = record {
+  between = between;
+  printed = subst (λ l. Printed old between (report_as format l)) same (printed_kept old first between (report_as format seen) printed quiet kept);
+  reported = reported;
+  ends = (let one : given ≡ own = cc in given_status ∙ ap (status_with lacks) (sym one ∙ ends ∙ ap records_status same));
+}
+report_ended records seen format lacks old first between new (Err fault) own status same printed ends quiet kept is reported given_status = absurd cc
+
+-- the inputs of paths were replayed
+pub replayed_paths : {S : Type 0} (program : Program S) (types first : List ℕ) (more : List (List ℕ)) (format : Format) (required strict left_out lacks progress : Bool) (link : Option (List ℕ)) (mode : ProgressMode) (inputs : List Input) (old between new : ConsoleView) (answer : Result ℕ Failure)
+    → AreListed (is_by_path more) (first ∷ more) inputs left_out old between
+    → lacks ≡ lacks_files left_out required inputs
+    → mode ≡ mode_by link progress
+    → IfOk answer (HasReplayed IsReadFrom strict program types inputs format mode lacks between new)
+    → IfOk answer (HasReplayedPaths program types first more format required strict progress old new)
+replayed_paths program types first more format required strict left_out lacks progress link mode inputs old between new (Ok status) listed same shown h =
+    record {
+      link = link;
+      inputs = inputs;
+      left_out = left_out;
+      between = between;
+      listed = listed;
+      replayed = subst (λ m. HasReplayed IsReadFrom strict program types inputs format m (lacks_files left_out required inputs) between new status) shown
+          (subst (λ l. HasReplayed IsReadFrom strict program types inputs format mode l between new status) same h);
+    }
+replayed_paths program types first more format required strict left_out lacks progress link mode inputs old between new (Err failure) listed same shown h = tt
+
+-- or the replay stopped after they were listed
+pub stopped_at_paths : {S : Type 0} (program : Program S) (first : List ℕ) (more : List (List ℕ)) (strict left_out progress : Bool) (link : Option (List ℕ)) (mode : ProgressMode) (inputs : List Input) (old between new : ConsoleView) (answer : Result ℕ Failure)
+    → AreListed (is_by_path more) (first ∷ more) inputs left_out old between
+    → mode ≡ mode_by link progress
+    → IfErr answer (HasNotReplayed IsReadFrom strict program inputs mode between new)
+    → IfErr answer (HasNotReplayedPaths program first more strict progress old new)
+stopped_at_paths program first more strict left_out progress link mode inputs old between new (Ok status) listed shown h = tt
+stopped_at_paths program first more strict left_out progress link mode inputs old between new (Err failure) listed shown h =
+    inr (record {
+      link = link;
+      inputs = inputs;
+      left_out = left_out;
+      between = between;
+      listed = listed;
+      stopped = subst (λ m. HasNotReplayed IsReadFrom strict program inputs m between new failure) shown h;
+    })
+
+-- an input that can't be read is no fault of the output
+no_output_fault : (fault : InputFault) → input_failure fault ≡ Output → ⊥
+no_output_fault (input_faults.Unreadable path entry reason) is = absurd cc
+no_output_fault input_faults.OutOfMemory is = absurd cc
+
+-- the replay stopped, and nothing more came of it
+pub not_replayed : {T S : Type 0} (gives : Gives) (strict : Bool) (program : Program S) (inputs : List Input) (mode : ProgressMode) (old new : ConsoleView) (fault : InputFault) (answer : Result T Failure)
+    → HasStoppedWhole (AreRecordsOf strict program (IsReadAs gives)) faulty_of mode inputs old new
+    → IsErrAnd answer (λ failure. failure ≡ input_failure fault)
+    → IfErr answer (HasNotReplayed gives strict program inputs mode old new)
+not_replayed gives strict program inputs mode old new fault (Ok value) stopped is = tt
+not_replayed gives strict program inputs mode old new fault (Err failure) stopped is = record {
+  between = new;
+  stopped = stopped;
+  whole = λ output. absurd (no_output_fault fault (sym is ∙ output));
+  quiet = record { named = refl; errors = refl; whole = refl };
+  unwritten = λ other. refl;
+  why = subst IsReportFailure (sym is) (unread_unreported (input_failure fault) (input_fails_to_read fault));
+}
+
+-- all was replayed, and the report can't be written
+pub replayed_cut : {S : Type 0} (gives : Gives) (strict : Bool) (program : Program S) (inputs : List Input) (mode : ProgressMode) (records : List Record) (old between new : ConsoleView) (failure : Failure)
+    → AreRecordsOf strict program (IsReadAs gives) inputs records
+    → Reported old between (reports_of mode (faulty_of records))
+    → (failure ≡ Output) × IsQuiet between new
+    → HasNotReplayed gives strict program inputs mode old new failure
+replayed_cut gives strict program inputs mode records old between new failure found told cut = record {
+  between = between;
+  stopped = whole_after_all (AreRecordsOf strict program (IsReadAs gives)) faulty_of mode inputs records old between (as_many strict program (IsReadAs gives)) found told;
+  whole = λ output. record { records = records; found = found; told = told };
+  quiet = cut.1;
+  unwritten = λ other. absurd (other cut.0);
+  why = subst IsReportFailure (sym cut.0) tt;
+}
