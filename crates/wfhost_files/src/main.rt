@@ -14,7 +14,7 @@ use wh_diagnostics::{Failure, print};
 use wh_file_commands::{explain_path, page_path, query_path, view_path};
 use wh_program::{UNCALLED, called, fail, fail_under, lack, output, plan, words};
 use wh_queryable::Queryable;
-use wh_registered::{Registered, TYPES};
+use wh_registered::{Registered, types};
 
 /// What the commands are called.
 const COMMANDS: &str = "the commands explain and query";
@@ -85,7 +85,7 @@ fn run_words<W: Queryable, R: Runtime + AllocGlobal>(rt: &R, words: &[String]) -
     match output(rt) {
         Ok(output) => {
             let mut console = Console::new(name, output, ErrorPrinter::new(rt));
-            answer::<W, R, _, _>(rt, TYPES, words, &mut console)
+            answer::<W, R, _, _>(rt, types(), words, &mut console)
         }
         Err(failure) => fail_under(rt, name, failure),
     }

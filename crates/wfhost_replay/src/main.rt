@@ -13,7 +13,7 @@ use wh_command_line::Plan;
 use wh_console::{Console, ErrorPrinter};
 use wh_diagnostics::{Failure, print};
 use wh_program::{UNCALLED, called, fail, fail_under, lack, output, plan, words};
-use wh_registered::{Registered, TYPES};
+use wh_registered::{Registered, types};
 use wh_replay_command::replay_paths;
 use wh_workflow::Workflow;
 
@@ -96,7 +96,7 @@ where
     match output(rt) {
         Ok(output) => {
             let mut console = Console::new(name, output, ErrorPrinter::new(rt));
-            answer::<W, R, _, _>(rt, TYPES, words, &mut console)
+            answer::<W, R, _, _>(rt, types(), words, &mut console)
         }
         Err(failure) => fail_under(rt, name, failure),
     }

@@ -13,7 +13,7 @@ use wh_console::{Console, ErrorPrinter};
 use wh_diagnostics::{Failure, print};
 use wh_program::{UNCALLED, called, fail, fail_under, lack, output, plan, words};
 use wh_promise_findings::Promises;
-use wh_registered::TYPES;
+use wh_registered::types;
 use wh_table_commands::{check_paths, picture_path, try_path};
 
 /// What the commands are called.
@@ -69,7 +69,7 @@ fn run_words<R: Runtime + AllocGlobal>(rt: &R, words: &[String]) -> u8
     match output(rt) {
         Ok(output) => {
             let mut console = Console::new(name, output, ErrorPrinter::new(rt));
-            answer::<R, _, _>(rt, TYPES, words, &mut console)
+            answer::<R, _, _>(rt, types(), words, &mut console)
         }
         Err(failure) => fail_under(rt, name, failure),
     }

@@ -2,6 +2,8 @@
 //! run.
 #![tactic(auto)]
 
+ghost use Rattle.std.specs.Prelude.{◌≡◌, codes};
+
 use wh_sample_workflows::All;
 use wh_table::TableWorkflow;
 use wh_workflow::Pair;
@@ -9,5 +11,9 @@ use wh_workflow::Pair;
 /// The registered workflows.
 pub type Registered = Pair<TableWorkflow, All>;
 
-/// Their workflow types.
-pub const TYPES: &str = "Table, Table:NAME, Nap, Greet, Branch, Family, Racer, Caller, Relay";
+/// Returns the names of their workflow types, with a comma and a space between two.
+pub fn types() -> &'static str
+    ensures names { result.now ≡ codes "Table, Table:NAME, Nap, Greet, Branch, Family, Racer, Caller, Relay" }
+{
+    "Table, Table:NAME, Nap, Greet, Branch, Family, Racer, Caller, Relay"
+}
