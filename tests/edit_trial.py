@@ -3,7 +3,6 @@
 import contextlib
 import re
 import shutil
-import signal
 import time
 from pathlib import Path
 
@@ -28,12 +27,23 @@ UNREAD = re.compile(
     r"|^(?:\./)?(?:src|specs)/\S+:\d+:\d+: error: .*(?:is not in scope|has no field|is no name|is missing|expected).*$",
     re.MULTILINE,
 )
+# What it says where the machine gives it no memory, so that it can't tell.
+NO_MEMORY = re.compile(
+    r"could not allocate more memory|would not commit more memory|memory allocation of \d+ bytes failed"
+    r"|antt's thread, which reserves"
+)
+# How often a check is tried that ends for memory.
+TRIES = 5
 # What it says of a library that was built over others than those that are there.
 STALE = "Run the lower steps again"
 # What it says of a hole for a function that it knows by another name.
 NO_FUNCTION = re.compile(r"^(?:\./)?proofs/(\S+)/Proof\.antt: error: `\w+` has no function ", re.MULTILINE)
 # A proof that is a hole.
 HOLE = "use Rattle.{0}.proofs.{1}.Statement.{{statement}}\n\npub {2}_spec : {{M : Type 1}} → statement M\n{2}_spec = ?\n"
+
+
+class Late(Exception):
+    """The time was up before a check began."""
 
 
 class Edit:
@@ -187,7 +197,9 @@ class Trial:
 
     def __init__(self, crate, kit, room, until, store=None, begin=contextlib.nullcontext):
         self.crate, self.kit, self.room, self.until, self.store, self.begin = crate, kit, room, until, store, begin
-        self.rounds = self.refused = self.wrong = self.left = self.seconds = self.taken = 0
+        self.rounds = self.refused = self.left = self.seconds = self.taken = 0
+        # The names of the edits that are wrong.
+        self.wrong = []
         files = sorted((crate.folder / "src").rglob("*.rt"))
         self.texts = {str(file.relative_to(crate.folder)): file.read_text(encoding="utf-8") for file in files}
         functions = [rust_items.functions_of(file, text) for file, text in self.texts.items()]
@@ -198,7 +210,7 @@ class Trial:
 
     def note(self, edit, text, is_wrong):
         """Says what came of an edit, and counts it."""
-        self.wrong += is_wrong
+        self.wrong += [edit.name] * is_wrong
         self.refused += not is_wrong
         say(f"{self.crate.name}/{edit.name}: {text[:300]}")
 
@@ -207,12 +219,13 @@ class Trial:
         left = [edit for edit in map(Edit, self.crate.edits()) if self.is_read(edit) and not self.is_kept(edit)]
         if left:
             self.copy()
-        while left and time.monotonic() < self.until:
-            chosen, texts = self.choose(left)
-            judged = self.judge(chosen, self.check(chosen, texts))
-            left = [edit for edit in left if edit not in judged]
+        with contextlib.suppress(Late):
+            while left and time.monotonic() < self.until:
+                chosen, texts = self.choose(left)
+                judged = self.judge(chosen, self.check(chosen, texts))
+                left = [edit for edit in left if edit not in judged]
         self.left = len(left)
-        words = f"{self.refused} edits refused, {self.taken} of them earlier, {self.wrong} wrong, {self.left} left"
+        words = f"{self.refused} edits refused, {self.taken} of them earlier, {len(self.wrong)} wrong, {self.left} left"
         say(f"{self.crate.name}: {words}, in {self.rounds} rounds, with {self.seconds:.0f} seconds of a processor")
 
     def is_read(self, edit):
@@ -294,17 +307,25 @@ class Trial:
                 (folder / "Proof.antt").write_text(HOLE.format(self.crate.name, ".".join(names), names[-1]), encoding="utf-8")
 
     def run(self, texts, *flags):
-        """Runs a check of these texts."""
+        """Runs a check of these texts, and again where it ends for memory, which says nothing of the edits."""
         for file, text in texts.items():
             (self.room / file).write_text(text, encoding="utf-8")
         words = [*self.kit.check, *self.crate.words(self.kit), "--jobs", "1", "--incremental", "kept"]
-        for _ in range(5):
-            with self.begin():
+        for ended in range(TRIES):
+            with self.begin(ended):
+                # It may have waited long for memory.
+                if time.monotonic() > self.until:
+                    raise Late
                 ran, seconds = COMMANDS.run([*words, *flags], self.room)
             self.seconds += seconds
-            # It was killed most likely for memory, and may have more of it now.
-            if ran.returncode != -signal.SIGKILL:
+            # A signal came most likely for memory too.
+            if ran.returncode >= 0 and not (ran.returncode and NO_MEMORY.search(ran.stdout)):
                 break
+            if not COMMANDS.are_over:
+                say(f"{self.crate.name}: try {ended + 1} of {TRIES} ended with status {ran.returncode}, most likely for memory")
+        else:
+            # What such a check says of its functions refuses nothing.
+            ran.stdout = "no try got the memory that it needs"
         return Check(self.crate, ran)
 
     def judge(self, edits, check):
@@ -331,8 +352,11 @@ class Trial:
         return bool(refusal or is_alone)
 
     def compiles(self, edit):
-        """Whether the compiler takes an edit by itself; where it doesn't, that is said."""
-        check = self.run(edit.applied_to(self.texts), "--only=")
+        """Whether the compiler takes an edit by itself, or there is no time to see that; where it doesn't, that is said."""
+        try:
+            check = self.run(edit.applied_to(self.texts), "--only=")
+        except Late:
+            return True
         is_read = re.search(r"^only=", check.said, re.MULTILINE)
         if not is_read:
             self.note(edit, check.complaint(edit), True)

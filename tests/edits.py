@@ -58,7 +58,11 @@ class Lanes:
         self.listed, self.count, self.has_ended = listed, count, not is_beside
         self.proved = set() if is_beside else {*listed.values()}
         self.begun, self.checks, self.changed = [], 0, threading.Condition()
+        # Whether the check that runs is to have none beside it.
+        self.is_alone = False
         self.refused = self.wrong = self.left = 0
+        # The edits that are wrong, by the names of crate and edit, and the crates of which some were not tried.
+        self.named = []
 
     def work(self, crate):
         """About how long the edits of a crate take: each is refused, and each round reads the libraries below."""
@@ -126,10 +130,12 @@ class Lanes:
     def note(self, crate, trial):
         """Counts what came of the edits of a crate. Each is wrong that is neither refused nor left, whatever it is that keeps it
         from being tried."""
-        refused, wrong, left = (trial.refused, trial.wrong, trial.left) if trial else (0, 0, 0)
+        refused, names, left = (trial.refused, trial.wrong, trial.left) if trial else (0, [], 0)
+        wrong = max(len(names), self.edits[crate] - refused - left)
         with self.changed:
-            self.refused, self.left = self.refused + refused, self.left + left
-            self.wrong += max(wrong, self.edits[crate] - refused - left)
+            self.refused, self.wrong, self.left = self.refused + refused, self.wrong + wrong, self.left + left
+            self.named += [f"{crate.name}/{name}" for name in names]
+            self.named += [f"{wrong - len(names)} of {crate.name} that were not tried"] * (wrong > len(names))
 
     def end(self):
         """Ends all that runs, and lets nothing begin."""
@@ -139,25 +145,28 @@ class Lanes:
             self.changed.notify_all()
 
     @contextlib.contextmanager
-    def check(self):
-        """A check, which begins when there is memory for it."""
+    def check(self, ended):
+        """A check, which begins when there is memory for it, and which ended so many times for lack of it."""
         with self.changed:
-            while not self.has_room() and not COMMANDS.are_over:
+            while not self.has_room(ended) and not COMMANDS.are_over:
                 self.changed.wait(2)
             self.checks += 1
+            self.is_alone = ended > 1
             self.begun.append(time.monotonic())
         try:
             yield
         finally:
             with self.changed:
                 self.checks -= 1
+                self.is_alone = False
                 self.changed.notify_all()
 
-    def has_room(self):
-        """Whether there is memory for one check more."""
+    def has_room(self, ended):
+        """Whether there is memory for one check more. One that ended twice for memory runs alone, since where memory is short the
+        largest check is killed, each time the same."""
         if self.has_ended and not self.checks:
             return True
-        if not self.has_ended and self.checks >= max(1, self.count - 1):
+        if ended > 1 or self.is_alone or not self.has_ended and self.checks >= max(1, self.count - 1):
             return False
         self.begun = [begun for begun in self.begun if time.monotonic() - begun < GROWS]
         return launcher.free_memory() > (FREE if self.has_ended else FREE_BESIDE) + TAKEN * len(self.begun)
@@ -292,6 +301,9 @@ def tell(lanes, file):
     """Says the last line, or writes it to a file, and returns the status. What no lane counted is wrong."""
     refused, left = lanes.refused, lanes.left
     wrong = max(lanes.wrong, sum(lanes.edits.values()) - refused - left)
+    if lanes.named:
+        # Their own lines are among those of all others.
+        say(f"wrong: {', '.join(lanes.named)}")
     line = f"{refused + wrong} tried, {wrong} wrong" + f" ({left} left, since the time was up)" * bool(left)
     if left and not refused + wrong:
         line = "skipped: no time was left"

@@ -2,11 +2,12 @@
 """Tries edits of which it is known what comes of them, by the code of tests/edits.py, in a crate of three functions that it
 writes to a folder of its own: what is wrong has to be refused, and what is right not, what doesn't compile is a bad edit,
 and a goal that is open in another function refuses nothing. What is refused, and that alone, has to be kept, till a file is
-changed. Where something fails that should not, each edit that is not tried for that has to count as wrong. The last line is
-`N tried, M wrong`."""
+changed. Where something fails that should not, each edit that is not tried for that has to count as wrong. What ends for
+memory has to be tried again. The last line is `N tried, M wrong`."""
 
 import contextlib
 import io
+import signal
 import subprocess
 import sys
 import tempfile
@@ -14,6 +15,7 @@ import time
 from pathlib import Path
 from types import SimpleNamespace
 
+import edit_trial
 from edit_crates import COMMANDS, Crate, Kit
 from edit_store import Store
 from edit_trial import Check, Edit, Trial
@@ -89,6 +91,18 @@ LANES = [
 ]
 
 
+# How the tries of a check end, each with a status and what it says, how many there are to be, and whether functions have states.
+OPEN = "fn edited::second: not proved: rattle did not prove `returns`\n"
+SHORT = f"the operating system would not commit more memory\n{OPEN}"
+ENDS = [
+    ([(1, OPEN)], 1, True),
+    ([(2, "")], 1, False),
+    ([(-signal.SIGKILL, ""), (1, OPEN)], 2, True),
+    ([(-signal.SIGABRT, SHORT), (3, SHORT), (1, OPEN)], 3, True),
+    ([(1, SHORT)] * 9, edit_trial.TRIES, False),
+]
+
+
 def write(folder, code):
     """Writes the crate and its edits."""
     (folder / "src").mkdir(parents=True)
@@ -152,12 +166,24 @@ def by_impls(room):
         yield "" if refusal == wanted else f"{words}: it was to be {wanted}, and is {refusal}"
 
 
+def by_ends(room):
+    """Yields what is wrong with how often a check is tried that ends for memory, or nothing."""
+    for ends, *wanted in ENDS:
+        ran = (subprocess.CompletedProcess([], *end) for end in ends)
+        edit_trial.COMMANDS = SimpleNamespace(run=lambda *_: (next(ran), 1), are_over=True)
+        trial = Trial(crate_in(room / NAME), SimpleNamespace(check=[], folder=room), room, float("inf"))
+        states = trial.run({}).states
+        came = [trial.seconds, bool(states)]
+        yield "" if came == wanted else f"{ends}: it was to be {wanted}, and is {came}"
+    edit_trial.COMMANDS = COMMANDS
+
+
 def main():
     COMMANDS.be_guarded()
     with tempfile.TemporaryDirectory(prefix="edits-of-edits.") as made:
         room = Path(made)
         write(room / NAME, CODE.encode())
-        found = [*by_lanes(room), *by_impls(room), *by_the_prover(room)]
+        found = [*by_lanes(room), *by_impls(room), *by_ends(room), *by_the_prover(room)]
     wrong = [line for line in found if line]
     for line in wrong:
         print(line)
