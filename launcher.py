@@ -30,7 +30,7 @@ STAMP = Path("out/launcher.stamp")
 SOURCES, LIBRARY, KEPT = ("src", "specs", "proofs"), "out/rlib", "out/incremental"
 # The control group of a container, where there is one.
 GROUP = Path("/sys/fs/cgroup")
-# The memory that one crate takes at most while it is proved, in KiB.
+# The memory that one library takes at most while it is proved, in KiB.
 MEMORY = 5_000_000
 # The processor seconds that a line of a crate takes, where no crate has a row in the table.
 LINE = 0.06
@@ -322,7 +322,8 @@ class Build:
     def announce(self):
         """Says what there is to do, and how long that takes."""
         what = "proving what was changed, and building the program" if not self.is_first else "proving and building the program"
-        whose = "on this machine" if self.pace.is_known() else f"on {self.lanes} processors like those of costs.txt"
+        processors = f"{self.lanes} processors" if self.lanes > 1 else "one processor"
+        whose = "on this machine" if self.pace.is_known() else f"on {processors} like those of costs.txt"
         count = f"{len(self.costs)} crates" if len(self.costs) > 1 else "one crate"
         say(f"{what}, {count}, which takes {self.how} {minutes(self.left())} {whose}")
         if self.is_first:
@@ -465,7 +466,9 @@ def end_by(number, _):
 def main():
     tunables, program, *words = sys.argv[1:]
     for number in (signal.SIGINT, signal.SIGTERM, signal.SIGHUP):
-        signal.signal(number, end_by)
+        # `nohup` ignores the last one.
+        if signal.getsignal(number) is not signal.SIG_IGN:
+            signal.signal(number, end_by)
     if not shutil.which("rt"):
         fail("the program has to be built, and the command rt of the Rattle kit is not on the PATH")
     if words[:1] == ["--unproved"]:
