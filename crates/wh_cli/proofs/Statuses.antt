@@ -1,10 +1,11 @@
 -- The statuses with which the program ends.
 use Rattle.std.proofs.Common.{◌≡◌, ◌≤◌, ℕ, Bool, true, false, List, Option, Some, None, inl, inr, arith}
-use Rattle.wh_cli.specs.Private.Commands.{Answers, AskForNothing, Obeys}
+use Rattle.wh_cli.specs.Private.Commands.{IsStopped, Obeys}
 use Rattle.wh_command_line.specs.declared.command_line.Plan.{Plan}
 use Rattle.wh_command_line.specs.declared.command_line.Plan.TheVariants.{Replay, Explain, Page, View, Query, Check, Picture, Try, Serve, Work, Help}
 use Rattle.wh_console.specs.Consoles.{ConsoleView}
 use Rattle.wh_file_commands.specs.Pages.{HasPagedPath}
+use Rattle.wh_program.specs.Answers.{Answers}
 use Rattle.wh_queryable.specs.Queries.{Queries}
 use Rattle.wh_table_trial.specs.Commands.{status_by}
 use Rattle.wh_table_trial.specs.declared.running.Difference.{Difference}
@@ -40,12 +41,6 @@ obeyed program queries lives types (Help text) old new status h = (let is = h.en
 
 -- so does each answer
 pub documented : {S : Type 0} (program : Program S) (queries : Queries S) (lives : LivesBy) (types : List ℕ) (words : List (List ℕ)) (old new : ConsoleView) (status : ℕ)
-    → Answers program queries lives types words old new status → status ≤ 3
+    → Answers (Obeys program queries lives types) (IsStopped program) words old new status → status ≤ 3
 documented program queries lives types words old new status (inl h) = obeyed program queries lives types h.plan old new status h.obeys
 documented program queries lives types words old new status (inr h) = (let is = h.failed.ends in omega arith)
-
--- words that ask for no plan give 2
-pub refused : {S : Type 0} (program : Program S) (queries : Queries S) (lives : LivesBy) (types : List ℕ) (words : List (List ℕ)) (old new : ConsoleView) (status : ℕ)
-    → Answers program queries lives types words old new status → AskForNothing words → status ≡ 2
-refused program queries lives types words old new status (inl h) none = absurd (none h.plan h.asked)
-refused program queries lives types words old new status (inr h) none = h.failed.ends

@@ -2,9 +2,10 @@
 
 ghost use Rattle.std.specs.Prelude.{◌≡◌, ◌≤◌, map, string_bytes};
 ghost use Rattle.std.specs.Process.{exit_status};
-ghost use Rattle.wh_cli.specs.Private.Commands.{Answers, AskForNothing};
+ghost use Rattle.wh_cli.specs.Private.Commands.{IsStopped, Obeys};
 ghost use Rattle.wh_work.specs.Plans.{MayServe, lives};
 ghost use Rattle.wh_host.specs.Machine.{IsConfig};
+ghost use Rattle.wh_program.specs.Answers.{Answers, AskForNothing};
 
 use crate::commands::obey;
 use std::io::Write;
@@ -36,8 +37,8 @@ where
     R::Dir: Send,
     F: Drop,
     requires { MayServe (F.pre live) }
-    ensures { Answers W.program W.queries (lives (F.post live)) types.now (map string_bytes words.now)
-        console.old console.new result }
+    ensures { Answers (Obeys W.program W.queries (lives (F.post live)) types.now) (IsStopped W.program)
+        (map string_bytes words.now) console.old console.new result }
 {
     match plan(rt.alloc(), types, words) {
         Ok(plan) => match obey::<W, R, O, E, F>(rt, types, plan, live, console) {

@@ -1,7 +1,6 @@
 -- What a plan asks for, and what came of it.
-use Rattle.std.specs.Prelude.{◌≡◌, ◌⊎◌, ℕ, List}
+use Rattle.std.specs.Prelude.{◌≡◌, ℕ, List}
 use Rattle.wh_command_line.specs.Options.{sizes_of}
-use Rattle.wh_command_line.specs.Plans.{IsAskedBy}
 use Rattle.wh_command_line.specs.declared.command_line.Plan.{Plan}
 use Rattle.wh_command_line.specs.declared.command_line.Plan.TheVariants.{Replay, Explain, Page, View, Query, Check, Picture, Try, Serve, Work, Help}
 use Rattle.wh_command_line.specs.declared.work.WorkOptions.{WorkOptions}
@@ -17,8 +16,6 @@ use Rattle.wh_file_commands.specs.Pages.{HasPagedPath}
 use Rattle.wh_file_commands.specs.Queries.{HasQueriedPath}
 use Rattle.wh_file_commands.specs.Refusals.{IsRefused, IsUnqueriedPath, IsUnreportedPath, IsUnshownPath}
 use Rattle.wh_file_commands.specs.Views.{HasViewedPath}
-use Rattle.wh_program.specs.Endings.{HasFailed}
-use Rattle.wh_program.specs.Lines.{IsRefusedLine}
 use Rattle.wh_promise_findings.specs.Finds.{Finds}
 use Rattle.wh_query_report.specs.Inputs.{query_of}
 use Rattle.wh_queryable.specs.Queries.{Queries}
@@ -79,13 +76,6 @@ Obeys program queries lives types (Serve dir options required progress) old new 
 Obeys program queries lives types (Work options) old new status = HasWorked lives options old new status
 Obeys program queries lives types (Help text) old new status = HasPrinted text old new status
 
--- the words ask for a plan, and what that asks for was done
-pub record ObeysWords {S : Type 0} (program : Program S) (queries : Queries S) (lives : LivesBy)
-    (types : List ℕ) (words : List (List ℕ)) (old new : ConsoleView) (status : ℕ) : Type 0 where
-  pub plan : Plan
-  pub asked : IsAskedBy words plan
-  pub obeys : Obeys program queries lives types plan old new status
-
 -- the failure if there is no plan to serve live tasks, by the fault
 abbrev pub plan_failure : PlanFault → Failure
 plan_failure (faults.Unread fault) = input_failure fault
@@ -132,34 +122,8 @@ IsUndone program (Serve dir options required progress) old new failure =
 IsUndone program (Work options) old new failure = new ≡ old
 IsUndone program (Help text) old new failure = IsQuiet old new
 
--- the words ask for a plan, and what that asks for failed
-pub record IsUndoneAtWords {S : Type 0} (program : Program S) (words : List (List ℕ)) (old new : ConsoleView)
+-- what a plan asks for failed, with a failure that it may end with
+pub record IsStopped {S : Type 0} (program : Program S) (plan : Plan) (old new : ConsoleView)
     (failure : Failure) : Type 0 where
-  pub plan : Plan
-  pub asked : IsAskedBy words plan
-  pub stopped : IsUndone program plan old new failure
+  pub undone : IsUndone program plan old new failure
   pub why : MayFailWith plan failure
-
--- why the words have no full report: they are refused, and the console is as it was, or what they ask for failed
-abbrev pub IsUnanswered : {S : Type 0} → Program S → List (List ℕ) → (old new : ConsoleView) → Failure → Type 0
-IsUnanswered program words old new failure =
-    ((new ≡ old) × IsRefusedLine words failure) ⊎ IsUndoneAtWords program words old new failure
-
--- there is no full report: what the console got until then stands, and then the failure was reported, unless it is
--- that of a closed pipe
-pub record HasNoReport {S : Type 0} (program : Program S) (words : List (List ℕ)) (old new : ConsoleView)
-    (status : ℕ) : Type 0 where
-  pub failure : Failure
-  pub between : ConsoleView
-  pub why : IsUnanswered program words old between failure
-  pub failed : HasFailed failure between new status
-
--- no plan is asked for by the words
-abbrev pub AskForNothing : List (List ℕ) → Type 0
-AskForNothing words = (plan : Plan) → IsAskedBy words plan → ⊥
-
--- what the words ask for was done, or there is no full report
-abbrev pub Answers : {S : Type 0} → Program S → Queries S → LivesBy → (types : List ℕ) → List (List ℕ)
-    → (old new : ConsoleView) → (status : ℕ) → Type 0
-Answers program queries lives types words old new status =
-    ObeysWords program queries lives types words old new status ⊎ HasNoReport program words old new status
