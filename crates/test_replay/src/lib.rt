@@ -1,5 +1,5 @@
-//! Tests of the libraries that replay histories, from the events to the explanation, by their
-//! public calls: what no contract says.
+//! Tests of the libraries that replay histories, from the events to the runs, by their public calls:
+//! what no contract says.
 #![tactic(auto)]
 
 #[cfg(test)]
