@@ -17,6 +17,7 @@ from temporalio.api.workflowservice import v1 as messages
 from connections import Connections
 from counts import Counts, Readiness
 from report import say
+from task_counts import TaskCounts
 
 # The server answers a poll without a task within a minute.
 POLL_SECONDS = 70
@@ -152,7 +153,7 @@ class Calls:
 
     def __init__(self, found: Namespace):
         self.found, self.connections = found, Connections(found)
-        self.counts, self.readiness = Counts(), Readiness()
+        self.counts, self.tasks, self.readiness = Counts(), TaskCounts(), Readiness()
         self.pauses, self.tokens, self.reports = Pauses(), Tokens(), Reports()
         self.is_stopped, self.stopped = threading.Event(), 0.0
 
@@ -204,6 +205,7 @@ class Calls:
         self.count(method, namespace or self.found.namespace, time.monotonic() - begun, failure and failure.code())
         if failure is not None:
             return None, (failure.code().value[0], failure.details() or failure.code().name)
+        self.tasks.add(method, namespace or self.found.namespace, request, response)
         result = json_format.MessageToDict(response)
         self.name_events(result, request)
         return result, None

@@ -5,7 +5,7 @@ from __future__ import annotations
 import threading
 import time
 from bisect import bisect_left
-from collections import Counter
+from collections import Counter, defaultdict
 from http.server import BaseHTTPRequestHandler, ThreadingHTTPServer
 from socket import AF_INET, AF_INET6
 from typing import Callable, Dict, List, Optional, Tuple
@@ -43,12 +43,12 @@ class Counts:
     """The counts of all calls."""
 
     def __init__(self):
-        self.lock, self.calls = threading.Lock(), {}
+        self.lock, self.calls = threading.Lock(), defaultdict(Tally)
 
     def add(self, namespace: str, method: str, seconds: float, failure: Optional[str]) -> None:
         """Counts a call, with the name of the code with which it failed."""
         with self.lock:
-            self.calls.setdefault((namespace, method), Tally()).add(seconds, failure)
+            self.calls[namespace, method].add(seconds, failure)
 
     def text(self) -> str:
         """Returns the counts in the text format of Prometheus."""

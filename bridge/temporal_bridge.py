@@ -217,7 +217,7 @@ class Bridge:
 def pages_of(calls: Any, worker_metrics: Optional[str]) -> Dict[str, Any]:
     """Returns the pages of --listen."""
     return {
-        "/metrics": lambda: (200, calls.counts.text() + content_of(worker_metrics)),
+        "/metrics": lambda: (200, calls.counts.text() + calls.tasks.text() + content_of(worker_metrics)),
         "/live": lambda: (200, "the bridge lives\n"),
         "/ready": lambda: (200, "polls succeed\n") if calls.is_ready() else (503, "no poll succeeds\n"),
     }

@@ -1029,6 +1029,105 @@ def page_of_metrics():
             bridge.done()
 
 
+def closing(token, command):
+    """The answer to a workflow task that ends in this command."""
+    timer = {"commandType": "COMMAND_TYPE_START_TIMER"}
+    return {**answer_to(token), "commands": [timer, {"commandType": f"COMMAND_TYPE_{command}"}]}
+
+
+def page_of_tasks():
+    """How long tasks waited is the time between two of the server's, of an activity that of its attempt; polls count by whether the
+    server gave a task, and a run that is closed counts once its answer is acknowledged."""
+    times = {
+        "late": {"scheduled_time": {"seconds": 60}, "started_time": {"seconds": 61, "nanos": 500_000_000}},
+        "early": {"scheduled_time": {"seconds": 60, "nanos": 20_000_000}, "started_time": {"seconds": 60}},
+        "query": {"started_time": {"seconds": 60}},
+        "again": {
+            "scheduled_time": {"seconds": 60},
+            "current_attempt_scheduled_time": {"seconds": 90, "nanos": 900_000_000},
+            "started_time": {"seconds": 91},
+        },
+    }
+
+    def task(kind):
+        """A rule for polls: the identity says the token, and what there is of times; a poll of `nobody` gets no task."""
+
+        def rule(message, context, count):
+            if message.identity.isdigit():
+                context.abort(CODES[int(message.identity)], "no")
+            made = {"task_token": message.identity.encode(), "workflow_type": {"name": 'Na"p'}}
+            made.update(times.get(message.identity, {}))
+            return b"" if message.identity == "nobody" else CLASSES[kind + "Response"](**made).SerializeToString()
+
+        return rule
+
+    def answer(message, context, count):
+        """A rule for answers: the token says what becomes of it."""
+        token = message.task_token.decode()
+        if token == "invalid" or token == "tried again" and count == 1:
+            context.abort(CODES[3 if token == "invalid" else 14], "no")
+        return CLASSES[ANSWER + "Response"](reset_history_event_id=3 * (token == "discarded")).SerializeToString()
+
+    sticky = {"name": "me:q", "normalName": "q", "kind": "TASK_QUEUE_KIND_STICKY"}
+    polls = [(TASK, one, {"name": "q"}) for one in ("late", "query", "nobody", "14", "4")] + [(TASK, "early", sticky)]
+    polls += [(POLL_ACTIVITY, one, {"name": "q"}) for one in ("again", "nobody", "nobody")]
+    ends = [
+        ("late", "COMPLETE_WORKFLOW_EXECUTION", {"name": "q"}),
+        ("early", "COMPLETE_WORKFLOW_EXECUTION", sticky),
+        ("early", "COMPLETE_WORKFLOW_EXECUTION", None),
+        ("unknown", "COMPLETE_WORKFLOW_EXECUTION", None),
+        ("invalid", "FAIL_WORKFLOW_EXECUTION", {"name": "q"}),
+        ("discarded", "FAIL_WORKFLOW_EXECUTION", {"name": "q"}),
+        ("tried again", "FAIL_WORKFLOW_EXECUTION", {"name": "q"}),
+        ("canceled", "CANCEL_WORKFLOW_EXECUTION", {"name": "q"}),
+        ("continued", "CONTINUE_AS_NEW_WORKFLOW_EXECUTION", {"name": "q"}),
+        ("goes on", "CANCEL_TIMER", {"name": "q"}),
+    ]
+    of_task = {"namespace": "default", "task_queue": "q", "worker_type": "WorkflowWorker"}
+    of_sticky, of_activity = {**of_task, "task_queue": "q:sticky"}, {**of_task, "worker_type": "ActivityWorker"}
+    of_run = {"namespace": "default", "task_queue": "q", "workflow_type": 'Na\\"p'}
+    waits, waits_of_activities = "workflow_task_schedule_to_start_latency_seconds", "activity_schedule_to_start_latency_seconds"
+    rows = [
+        (0, f"{waits}_bucket", {**of_task, "le": "1"}),
+        (1, f"{waits}_bucket", {**of_task, "le": "2.5"}),
+        (1.5, f"{waits}_sum", of_task),
+        (1, f"{waits}_count", of_task),
+        (1, f"{waits}_bucket", {**of_sticky, "le": "0.01"}),
+        (0, f"{waits}_sum", of_sticky),
+        (0, f"{waits_of_activities}_bucket", {**of_activity, "le": "0.05"}),
+        (1, f"{waits_of_activities}_bucket", {**of_activity, "le": "0.1"}),
+        (0.1, f"{waits_of_activities}_sum", of_activity),
+        (2, "workflow_task_queue_poll_succeed_total", of_task),
+        (1, "workflow_task_queue_poll_succeed_total", of_sticky),
+        (1, "workflow_task_queue_poll_empty_total", of_task),
+        (None, "workflow_task_queue_poll_empty_total", of_sticky),
+        (2, "activity_poll_no_task_total", of_activity),
+        (2, "workflow_completed_total", of_run),
+        (1, "workflow_failed_total", of_run),
+        (1, "workflow_canceled_total", of_run),
+        (1, "workflow_continue_as_new_total", of_run),
+    ]
+    rules = {TASK: task(TASK), POLL_ACTIVITY: task(POLL_ACTIVITY), ANSWER: answer}
+    with Server(rules) as server:
+        port = free_port()
+        with Bridge(server.port, "--listen", f"127.0.0.1:{port}") as bridge:
+            for method, identity, queue in polls:
+                bridge.answered(method, {"namespace": "default", "taskQueue": queue, "identity": identity})
+            text = page_of(port, "/metrics")[1]
+            found = [value_of(text, f"temporal_{name}", **labels) for _, name, labels in rows[:14]]
+            same("polls", found, [value for value, _, _ in rows[:14]])
+            for token, command, queue in ends:
+                if queue and token not in times:
+                    bridge.answered(TASK, {"namespace": "default", "taskQueue": queue, "identity": token})
+                bridge.answered(ANSWER, closing(token, command))
+            text = page_of(port, "/metrics")[1]
+            found = [value_of(text, f"temporal_{name}", **labels) for _, name, labels in rows[14:]]
+            same("closes", found, [value for value, _, _ in rows[14:]])
+            kinds = [line.split()[2] for line in text.splitlines() if line.startswith("# TYPE ")]
+            same("each family once", len(kinds), len(set(kinds)))
+            bridge.done()
+
+
 def page_of_readiness():
     """It is ready where a poll has succeeded or is open for a while; and not before, where all are refused, after a stop."""
     modes = ["refuse"]
@@ -1090,9 +1189,10 @@ def files_of_a_deployment():
         found |= {word for word in words if word.startswith("--")}
     same("options that are none", sorted(found - known), [])
     has("options", found, "--listen")
-    sources = "".join(file.read_text() for file in [BRIDGE.parent / "counts.py", *TOP.glob("crates/wh_metrics/src/*.rt")])
+    sources = [*BRIDGE.parent.glob("*counts.py"), *TOP.glob("crates/wh_metrics/src/*.rt")]
+    sources = "".join(file.read_text() for file in sources)
     metrics = set(re.findall(r"\b(?:temporal|wfhost)_\w+", (folder / "alerts.yaml").read_text()))
-    families = {re.sub(r"_(failure_)?total$", "", name) if name.startswith("temporal") else name for name in metrics}
+    families = {re.sub(r"_(bucket|(failure_)?total)$", "", name) if name.startswith("temporal") else name for name in metrics}
     same("metrics that are none", [name for name in sorted(families - {"temporal_"}) if f'"{name}"' not in sources], [])
     has("metrics", metrics, "wfhost_tasks_total")
 
@@ -1236,6 +1336,7 @@ TRIES = [
     key_file_that_changes,
     certificates_that_change,
     page_of_metrics,
+    page_of_tasks,
     page_of_readiness,
     places_to_listen_that_are_wrong,
     files_of_a_deployment,
