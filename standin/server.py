@@ -104,6 +104,7 @@ class Server:
         # Whether or not its answer was accepted, the worker does not learn it, and keeps no run for it. What it learned
         # before still holds, as when the same task was given twice and its other answer was acknowledged.
         peer.cached = known
+        peer.counts["answers failed"] += method.startswith("Respond") and method not in UNCOUNTED
         self.tasks.give_up(peer, params)
         return None, (self.troubles.dice.choice(self.final_codes), "the server can't answer now")
 

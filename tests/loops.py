@@ -164,7 +164,8 @@ class Loop:
         if not report or not calls:
             return [f"{name}: no report: {said[-500:]}"]
         taken, completed, failed, in_hand = map(int, report.groups())
-        rows = [("in hand", in_hand, 0), ("taken", taken, completed + failed)]
+        not_found, refused = map(int, calls.groups()[2:])
+        rows = [("in hand", in_hand, 0), ("taken", taken, completed + failed + not_found + refused)]
         if not process.peer.is_cut and not process.peer.is_disturbed:
             # Of one whose input has ended, or whose connection was lost, nobody knows which responses reached it.
             rows += self.rows_of(process.peer, calls)
@@ -179,7 +180,7 @@ class Loop:
         late = counts["late polls"] if self.options.grpc else 0
         yield "empty polls", empty, counts["empty"] + late
         yield "answers not found", not_found, counts[5]
-        yield "answers refused", refused, counts[3]
+        yield "answers refused", refused, counts[3] + counts["answers failed"]
         if not self.troubles.met.get("calls"):
             yield "sticky queues given up", counts["farewells"], int(self.cache > 0 and not peer.name.startswith("till"))
 

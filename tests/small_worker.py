@@ -89,7 +89,7 @@ class Worker:
             if self.is_stopped and not self.waiting:
                 break
         # What its input's end left in hand counts as failed.
-        self.counts["failed"] = self.counts["taken"] - self.counts["completed"]
+        self.counts["failed"] = self.counts["taken"] - sum(self.counts[name] for name in ("completed", "not found", "refused"))
         print("taken %d, completed %d, failed %d, in hand 0" % tuple(self.counts[name] for name in NAMES[:3]), file=sys.stderr)
         print("polls %d, empty polls %d, answers not found %d, answers refused %d" % tuple(self.counts[name] for name in NAMES[3:]),
               file=sys.stderr)
@@ -231,8 +231,7 @@ class Worker:
                 "kind": "TASK_QUEUE_KIND_STICKY", "name": self.sticky, "normalName": self.options.task_queue}}
 
         def then(result, error):
-            self.counts["completed"] += 1
-            self.note(error)
+            self.note(error, "completed")
             if error is None and self.sticky and "resetHistoryEventId" not in result:
                 self.cached[key] = events
             again()
@@ -269,9 +268,9 @@ class Worker:
             params["errorMessage"] = given
         self.call("RespondQueryTaskCompleted", params, lambda *_: again())
 
-    def note(self, error):
-        self.counts["not found"] += error is not None and error["code"] == NOT_FOUND
-        self.counts["refused"] += error is not None and error["code"] == INVALID
+    def note(self, error, outcome):
+        """Counts a task that ended so, if the server took its answer."""
+        self.counts[outcome if error is None else "not found" if error["code"] == NOT_FOUND else "refused"] += 1
 
     def fail(self, task, message, again):
         if int(task.get("attempt", 1)) > 1:
@@ -280,8 +279,7 @@ class Worker:
         params = {"cause": UNHANDLED, "failure": failure(message), "identity": self.options.identity, "taskToken": task["taskToken"]}
 
         def then(_, error):
-            self.counts["failed"] += 1
-            self.note(error)
+            self.note(error, "failed")
             again()
 
         self.call("RespondWorkflowTaskFailed", params, then)
@@ -360,9 +358,8 @@ class Worker:
 
     def end(self, task, count, kind, more, again):
         def then(_, error):
-            self.counts[count] += 1
             self.beating.discard(task["taskToken"])
-            self.note(error)
+            self.note(error, count)
             again()
 
         self.call("RespondActivityTask" + kind, {"identity": self.options.identity, "taskToken": task["taskToken"], **more}, then)

@@ -12,7 +12,6 @@ use std::sync::Wait;
 use std::thread::Threads;
 use wh_command_line::{Plan, WorkOptions};
 use wh_console::Console;
-use wh_crew::LiveEnd;
 use wh_diagnostics::{Failure, print};
 use wh_events::OutOfMemory;
 use wh_file_commands::{explain_path, page_path, query_path, view_path};
@@ -21,7 +20,7 @@ use wh_queryable::Queryable;
 use wh_replay_command::replay_paths;
 use wh_service_command::serve_folder;
 use wh_table_commands::{check_paths, picture_path, try_path};
-use wh_work::{LivePlan, LiveReport, PlanFault, live_plan, live_status};
+use wh_work::{LivePlan, LiveReport, PlanFault, WorkEnd, live_plan, live_status};
 
 /// Returns why there is no full report, from why there is no plan to serve live tasks.
 fn failure_of(fault: PlanFault) -> Failure
@@ -41,7 +40,7 @@ fn failure_of(fault: PlanFault) -> Failure
 /// Serves live tasks as options ask for, reports how they ended, and gives the status.
 fn work<
     R: Files + AllocGlobal,
-    F: FnOnce(LivePlan) -> Result<LiveEnd, OutOfMemory>,
+    F: FnOnce(LivePlan) -> Result<WorkEnd, OutOfMemory>,
     O: Write,
     E: Write,
 >(rt: &R, options: WorkOptions, live: F, console: &mut Console<'_, O, E>) -> Result<u8, Failure>
@@ -114,7 +113,7 @@ pub(crate) fn obey<
     R: Runtime + AllocGlobal + Threads + Wait + Sync,
     O: Write,
     E: Write,
-    F: FnOnce(LivePlan) -> Result<LiveEnd, OutOfMemory>,
+    F: FnOnce(LivePlan) -> Result<WorkEnd, OutOfMemory>,
 >(rt: &R, types: &str, plan: Plan, live: F, console: &mut Console<'_, O, E>) -> Result<u8, Failure>
 where
     R::File: Send,

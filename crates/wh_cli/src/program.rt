@@ -15,13 +15,12 @@ use std::sync::Wait;
 use std::thread::Threads;
 use wh_activities::{HeartbeatHandler, WithoutHeartbeat};
 use wh_console::{Console, ErrorPrinter};
-use wh_crew::LiveEnd;
 use wh_events::OutOfMemory;
 use wh_poll::ActivityHandler;
 use wh_program::{UNCALLED, called, fail, fail_under, output, plan, words};
 use wh_queryable::Queryable;
 use wh_rpc::Caller;
-use wh_work::{FileReplacer, LivePlan, serve_calls};
+use wh_work::{FileReplacer, LivePlan, WorkEnd, serve_calls};
 
 /// Does what the words of the command line ask for, or reports why there is no full report, and
 /// returns the status.
@@ -30,7 +29,7 @@ fn answer<
     R: Runtime + AllocGlobal + Threads + Wait + Sync,
     O: Write,
     E: Write,
-    F: FnOnce(LivePlan) -> Result<LiveEnd, OutOfMemory>,
+    F: FnOnce(LivePlan) -> Result<WorkEnd, OutOfMemory>,
 >(rt: &R, types: &str, words: &[String], live: F, console: &mut Console<'_, O, E>) -> u8
 where
     R::File: Send,
@@ -54,7 +53,7 @@ where
 fn run_words<
     W: Queryable + Send,
     R: Runtime + AllocGlobal + Threads + Wait + Sync,
-    F: FnOnce(LivePlan) -> Result<LiveEnd, OutOfMemory>,
+    F: FnOnce(LivePlan) -> Result<WorkEnd, OutOfMemory>,
 >(rt: &R, types: &str, words: &[String], live: F) -> u8
 where
     R::File: Send,
@@ -94,7 +93,7 @@ where
     ensures refused { AskForNothing (map string_bytes words.now) → result ≡ 2 }
 {
     let name = called(words);
-    let live = |plan: LivePlan| -> Result<LiveEnd, OutOfMemory>
+    let live = |plan: LivePlan| -> Result<WorkEnd, OutOfMemory>
         requires sizes { IsConfig plan.config }
         requires listens { L.IsAlwaysCallable listen }
         requires makes { M.IsAlwaysCallable make }

@@ -25,11 +25,18 @@ abbrev pub pair_text : (name kind help labels first : List ℕ) → ℕ → (sec
 pair_text name kind help labels first one second other =
     head_text name kind help ++ (sample_text name labels first one ++ sample_text name labels second other)
 
+-- a sample of the tasks of an outcome
+abbrev pub outcome_sample : (labels outcome : List ℕ) → ℕ → List ℕ
+outcome_sample labels outcome value = sample_text (codes "wfhost_tasks_total") labels outcome value
+
+-- the tasks that are over: each has one of four outcomes
 abbrev pub tasks_text : (labels : List ℕ) → Metrics → List ℕ
 tasks_text labels metrics =
-    pair_text (codes "wfhost_tasks_total") (codes "counter")
-    (codes "Tasks that were answered, by their outcome.") labels
-    (codes ",outcome=\"completed\"") metrics.completed (codes ",outcome=\"failed\"") metrics.failed
+    head_text (codes "wfhost_tasks_total") (codes "counter") (codes "Tasks that are over, by what became of them.")
+    ++ (outcome_sample labels (codes ",outcome=\"completed\"") metrics.completed
+    ++ (outcome_sample labels (codes ",outcome=\"failed\"") metrics.failed
+    ++ (outcome_sample labels (codes ",outcome=\"not_found\"") metrics.not_found
+    ++ outcome_sample labels (codes ",outcome=\"refused\"") metrics.refused)))
 
 abbrev pub hits_text : (labels : List ℕ) → Metrics → List ℕ
 hits_text labels metrics =
@@ -44,13 +51,6 @@ polls_text labels metrics =
     (codes "Polls that got a result or an error.") labels metrics.polls
     ++ single_text (codes "wfhost_polls_empty_total") (codes "counter")
     (codes "Polls that gave no task.") labels metrics.empty_polls
-
-abbrev pub answers_text : (labels : List ℕ) → Metrics → List ℕ
-answers_text labels metrics =
-    single_text (codes "wfhost_answers_not_found_total") (codes "counter")
-    (codes "Answers whose task was over.") labels metrics.not_found
-    ++ single_text (codes "wfhost_answers_refused_total") (codes "counter")
-    (codes "Answers that the server refused as invalid.") labels metrics.refused
 
 -- the labels of the two kinds of tasks
 abbrev pub workflow_label : List ℕ
@@ -122,5 +122,4 @@ holdings_text labels (Some held) = cache_text labels held ++ slots_text labels h
 abbrev pub metrics_text : (labels : List ℕ) → Metrics → List ℕ
 metrics_text labels metrics =
     tasks_text labels metrics ++ (hits_text labels metrics
-    ++ (polls_text labels metrics ++ (answers_text labels metrics ++ (times_text labels metrics
-    ++ holdings_text labels metrics.held))))
+    ++ (polls_text labels metrics ++ (times_text labels metrics ++ holdings_text labels metrics.held)))

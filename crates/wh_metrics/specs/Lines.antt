@@ -25,14 +25,19 @@ kinds_text metrics =
     codes ", workflow tasks " ++ (times_text metrics.workflow_times
     ++ (codes ", activity tasks " ++ times_text metrics.activity_times))
 
--- `completed <completed>, failed <failed>, <held>hits <hits>, misses <misses>, <rate> tasks a second`, and the times of
--- tasks
+-- `completed <completed>, failed <failed>, not found <not found>, refused <refused>, `
+abbrev pub outcomes_text : Metrics → List ℕ
+outcomes_text metrics =
+    codes "completed " ++ (decimal metrics.completed ++ (codes ", failed " ++ (decimal metrics.failed
+    ++ (codes ", not found " ++ (decimal metrics.not_found ++ (codes ", refused " ++ (decimal metrics.refused
+    ++ codes ", ")))))))
+
+-- `<outcomes><held>hits <hits>, misses <misses>, <rate> tasks a second`, and the times of tasks
 abbrev pub counts_text : Metrics → (rate : ℕ) → List ℕ
 counts_text metrics rate =
-    codes "completed " ++ (decimal metrics.completed ++ (codes ", failed " ++ (decimal metrics.failed
-    ++ (codes ", " ++ (held_text metrics.held ++ (codes "hits " ++ (decimal metrics.hits
+    outcomes_text metrics ++ (held_text metrics.held ++ (codes "hits " ++ (decimal metrics.hits
     ++ (codes ", misses " ++ (decimal metrics.misses ++ (codes ", " ++ (decimal rate
-    ++ (codes " tasks a second" ++ kinds_text metrics))))))))))))
+    ++ (codes " tasks a second" ++ kinds_text metrics))))))))
 
 -- a member of an object: `"KEY":VALUE`
 abbrev pub member : List ℕ → List ℕ → List ℕ

@@ -2,7 +2,7 @@
 
 ghost use Rattle.std.specs.Prelude.{◌≡◌, Some, codes};
 ghost use Rattle.wh_metrics.specs.Labels.{labels_text};
-ghost use Rattle.wh_metrics.specs.Exposition.{answers_text, cache_text, cached_text, head_text, hits_text, holdings_text};
+ghost use Rattle.wh_metrics.specs.Exposition.{cache_text, cached_text, head_text, hits_text, holdings_text};
 ghost use Rattle.wh_metrics.specs.Exposition.{metrics_text, pair_text, polls_text, sample_text, single_text};
 ghost use Rattle.wh_metrics.specs.Exposition.{longest_text, seconds_sample, slots_text, summaries_text};
 ghost use Rattle.wh_metrics.specs.Exposition.{summary_text, tasks_text, times_text};
@@ -153,19 +153,38 @@ impl fmt::Display for Tasks<'_> {
         (labels_text t.labels.namespace.now t.labels.task_queue.now t.labels.identity.now) t.metrics) };
 
     fn fmt<W: fmt::Write>(&self, f: &mut fmt::Formatter<W>) -> fmt::Result {
-        let tasks = Pair {
-            head: Head {
-                name: "wfhost_tasks_total",
-                kind: "counter",
-                help: "Tasks that were answered, by their outcome.",
-            },
-            labels: self.labels,
-            first: ",outcome=\"completed\"",
-            one: self.metrics.completed,
-            second: ",outcome=\"failed\"",
-            other: self.metrics.failed,
+        let Tasks { labels, metrics } = *self;
+        let name = "wfhost_tasks_total";
+        let head = Head {
+            name,
+            kind: "counter",
+            help: "Tasks that are over, by what became of them.",
         };
-        write!(f, "{tasks}")
+        let completed = Sample {
+            name,
+            labels,
+            more: ",outcome=\"completed\"",
+            value: metrics.completed,
+        };
+        let failed = Sample {
+            name,
+            labels,
+            more: ",outcome=\"failed\"",
+            value: metrics.failed,
+        };
+        let not_found = Sample {
+            name,
+            labels,
+            more: ",outcome=\"not_found\"",
+            value: metrics.not_found,
+        };
+        let refused = Sample {
+            name,
+            labels,
+            more: ",outcome=\"refused\"",
+            value: metrics.refused,
+        };
+        write!(f, "{head}{completed}{failed}{not_found}{refused}")
     }
 }
 
@@ -222,34 +241,6 @@ impl fmt::Display for Polls<'_> {
             self.metrics.empty_polls,
         );
         write!(f, "{polls}{empty}")
-    }
-}
-
-/// Answers that the server did not take.
-#[derive(Clone, Copy)]
-struct Answers<'a> {
-    labels: WorkerLabels<'a>,
-    metrics: Metrics,
-}
-
-impl fmt::Display for Answers<'_> {
-    ghost output = { λ t. Some (answers_text
-        (labels_text t.labels.namespace.now t.labels.task_queue.now t.labels.identity.now) t.metrics) };
-
-    fn fmt<W: fmt::Write>(&self, f: &mut fmt::Formatter<W>) -> fmt::Result {
-        let not_found = counter(
-            self.labels,
-            "wfhost_answers_not_found_total",
-            "Answers whose task was over.",
-            self.metrics.not_found,
-        );
-        let refused = counter(
-            self.labels,
-            "wfhost_answers_refused_total",
-            "Answers that the server refused as invalid.",
-            self.metrics.refused,
-        );
-        write!(f, "{not_found}{refused}")
     }
 }
 
@@ -539,12 +530,11 @@ impl fmt::Display for Exposition<'_> {
         let tasks = Tasks { labels, metrics };
         let hits = Hits { labels, metrics };
         let polls = Polls { labels, metrics };
-        let answers = Answers { labels, metrics };
         let times = Times { labels, metrics };
         let holdings = Holdings {
             labels,
             held: metrics.held,
         };
-        write!(f, "{tasks}{hits}{polls}{answers}{times}{holdings}")
+        write!(f, "{tasks}{hits}{polls}{times}{holdings}")
     }
 }

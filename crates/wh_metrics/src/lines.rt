@@ -2,7 +2,7 @@
 
 ghost use Rattle.std.specs.Prelude.{Some};
 ghost use Rattle.wh_metrics.specs.Lines.{counts_text, held_json, held_text, json_text, kinds_json};
-ghost use Rattle.wh_metrics.specs.Lines.{kinds_text, slots_json, times_json, times_text};
+ghost use Rattle.wh_metrics.specs.Lines.{kinds_text, outcomes_text, slots_json, times_json, times_text};
 
 use crate::metrics::{Held, Metrics, Slots, TaskTimes};
 use crate::times::Milliseconds;
@@ -61,14 +61,36 @@ impl fmt::Display for KindsText {
     }
 }
 
+/// The tasks that are over, by their outcome, in words, with a comma behind them.
+#[derive(Clone, Copy)]
+struct OutcomesText(Metrics);
+
+impl fmt::Display for OutcomesText {
+    ghost output = { λ t. Some (outcomes_text t.0) };
+
+    fn fmt<W: fmt::Write>(&self, f: &mut fmt::Formatter<W>) -> fmt::Result {
+        let Metrics {
+            completed,
+            failed,
+            not_found,
+            refused,
+            ..
+        } = self.0;
+        write!(
+            f,
+            "completed {completed}, failed {failed}, not found {not_found}, refused {refused}, "
+        )
+    }
+}
+
 /// Counts in words: the tasks by their outcome, what the host holds if that is known, workflow
-/// tasks with a cached run and without one, how many tasks were answered a second, and how long the
-/// tasks of each kind took.
+/// tasks with a cached run and without one, how many tasks ended a second, and how long the tasks
+/// of each kind took.
 #[derive(Clone, Copy, Debug)]
 pub struct CountsLine {
     /// The counts.
     pub metrics: Metrics,
-    /// How many tasks were answered a second since the line before.
+    /// How many tasks ended a second since the line before.
     pub rate: u64,
 }
 
@@ -76,19 +98,14 @@ impl fmt::Display for CountsLine {
     ghost output = { λ line. Some (counts_text line.metrics line.rate) };
 
     fn fmt<W: fmt::Write>(&self, f: &mut fmt::Formatter<W>) -> fmt::Result {
-        let Metrics {
-            completed,
-            failed,
-            hits,
-            misses,
-            ..
-        } = self.metrics;
+        let Metrics { hits, misses, .. } = self.metrics;
+        let outcomes = OutcomesText(self.metrics);
         let held = HeldText(self.metrics.held);
         let kinds = KindsText(self.metrics);
         let rate = self.rate;
         write!(
             f,
-            "completed {completed}, failed {failed}, {held}hits {hits}, misses {misses}, {rate} tasks a second{kinds}"
+            "{outcomes}{held}hits {hits}, misses {misses}, {rate} tasks a second{kinds}"
         )
     }
 }
@@ -169,12 +186,12 @@ impl fmt::Display for KindsJson {
     }
 }
 
-/// The same counts, and those of polls and answers, as an object of JSON.
+/// The same counts, and those of polls, as an object of JSON.
 #[derive(Clone, Copy, Debug)]
 pub struct JsonLine {
     /// The counts.
     pub metrics: Metrics,
-    /// How many tasks were answered a second since the line before.
+    /// How many tasks ended a second since the line before.
     pub rate: u64,
 }
 

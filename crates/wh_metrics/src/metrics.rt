@@ -39,9 +39,9 @@ pub struct Held {
 /// What the workers of a host have counted since they began, and what the host holds now.
 #[derive(Clone, Copy, PartialEq, Eq, Debug)]
 pub struct Metrics {
-    /// Tasks that were completed.
+    /// Tasks that were completed, and whose answer the server took.
     pub completed: u64,
-    /// Tasks that failed.
+    /// Tasks that failed: they were answered with a failure that the server took, or not at all.
     pub failed: u64,
     /// What the host holds, if that is known.
     pub held: Option<Held>,
@@ -53,9 +53,9 @@ pub struct Metrics {
     pub polls: u64,
     /// Polls that gave no task.
     pub empty_polls: u64,
-    /// Answers whose task was over: the server did not find it.
+    /// Tasks that the server no longer had when they were answered.
     pub not_found: u64,
-    /// Answers that the server refused as invalid.
+    /// Tasks whose answer the server refused for another reason, or did not respond to.
     pub refused: u64,
     /// How long workflow tasks took.
     pub workflow_times: TaskTimes,

@@ -1,1 +1,3 @@
 pub mod Sticky
+pub mod Outcomes
+pub mod Noted

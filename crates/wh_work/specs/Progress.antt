@@ -1,14 +1,9 @@
 -- What is counted of the turns and the calls of workers, and what is reported of it.
-use Rattle.std.specs.Prelude.{ℕ, ◌==◌, length, ◌*◌, ◌/◌, ◌-◌, ◌^◌, min, Bool, true, false, ◌&&◌, ◌||◌, not, nat_eq, bytes_eq, Option, Some, None, Result, Ok, List, codes}
+use Rattle.std.specs.Prelude.{ℕ, ◌==◌, length, ◌*◌, ◌/◌, ◌-◌, ◌^◌, max, min, Bool, true, false, ◌&&◌, ◌||◌, not, nat_eq, bytes_eq, Option, Some, None, Result, Ok, List, codes}
 use Rattle.std.specs.List.{starts_with}
 use Rattle.serde_json.specs.Data.{Data}
-use Rattle.wh_client.specs.Codes.{refused_answer}
-use Rattle.wh_client.specs.declared.codes.Receipt.{Receipt}
-use Rattle.wh_client.specs.declared.codes.Receipt.TheVariants as receipt
-use Rattle.wh_client.specs.declared.codes.Status.{Status}
 use Rattle.wh_console.specs.declared.format.Format.{Format}
 use Rattle.wh_console.specs.declared.format.Format.TheVariants as formats
-use Rattle.wh_crew.specs.declared.serving.LiveEnd.{LiveEnd}
 use Rattle.wh_host.specs.declared.reply.Counts.{Counts}
 use Rattle.wh_host.specs.declared.reply.Outcome.{Outcome}
 use Rattle.wh_host.specs.declared.reply.Outcome.TheVariants.{Completed, Failed}
@@ -25,6 +20,9 @@ use Rattle.wh_slots.specs.declared.SlotKind.{SlotKind}
 use Rattle.wh_slots.specs.declared.SlotKind.TheVariants as slot
 use Rattle.wh_tasks.specs.declared.source.SourceFault.{SourceFault}
 use Rattle.wh_work.specs.Times.{no_times}
+use Rattle.wh_work.specs.Untaken.{completed_of, failed_of, failures_of, refused_of}
+use Rattle.wh_work.specs.declared.report.WorkEnd.{WorkEnd}
+use Rattle.wh_work.specs.declared.untaken.UntakenAnswers.{UntakenAnswers}
 
 -- nothing is counted
 abbrev pub nothing : Metrics
@@ -72,20 +70,15 @@ token_of named = text_of (field (codes "taskToken") (Some named))
 abbrev pub has_no_task : Data → Bool
 has_no_task result = length (token_of result) == 0
 
--- an answer more, which became this
-abbrev pub with_receipt : Receipt → Metrics → Metrics
-with_receipt receipt.NotFound metrics = record metrics { not_found = together metrics.not_found 1 }
-with_receipt receipt.Invalid metrics = record metrics { refused = together metrics.refused 1 }
-with_receipt _ metrics = metrics
-
--- an answer more that was refused with this status
-abbrev pub with_refusal : Status → Metrics → Metrics
-with_refusal status metrics = with_receipt (refused_answer status) metrics
-
 -- the method answers a task; that which answers a query does not
 abbrev pub is_answer : List ℕ → Bool
 is_answer method =
     starts_with nat_eq method (codes "Respond") && not (bytes_eq method (codes "RespondQueryTaskCompleted"))
+
+-- the method completes a task
+abbrev pub completes : List ℕ → Bool
+completes method =
+    bytes_eq method (codes "RespondWorkflowTaskCompleted") || bytes_eq method (codes "RespondActivityTaskCompleted")
 
 -- the method answers a workflow task
 abbrev pub answers_workflow_task : List ℕ → Bool
@@ -121,15 +114,31 @@ held_of counts = record {
   activity = slots_of counts.activity;
 }
 
--- what is counted, with what the host counts and holds, if it gives that
-abbrev pub metrics_now : Metrics → Option Counts → Metrics
-metrics_now metrics None = metrics
-metrics_now metrics (Some counts) =
-    record metrics { completed = counts.completed; failed = counts.failed; held = Some (held_of counts) }
+-- what is counted, with what the host counts and holds, if it gives that, and without the answers that were not taken;
+-- of those that were lost no turn tells
+abbrev pub metrics_now : Metrics → UntakenAnswers → Option Counts → Metrics
+metrics_now metrics answers None = record metrics {
+  completed = completed_of answers metrics.completed;
+  failed = metrics.failed - failures_of answers;
+  not_found = answers.not_found;
+  refused = refused_of answers;
+}
+metrics_now metrics answers (Some counts) = record metrics {
+  completed = completed_of answers counts.completed;
+  failed = failed_of answers counts.failed;
+  held = Some (held_of counts);
+  not_found = answers.not_found;
+  refused = refused_of answers;
+}
 
--- tasks that were answered
+-- the counts, of which those of tasks are no lower than they were last
+abbrev pub no_lower : (last now : Metrics) → Metrics
+no_lower last now = record now { completed = max last.completed now.completed; failed = max last.failed now.failed }
+
+-- tasks that are over
 abbrev pub answered : Metrics → ℕ
-answered metrics = together metrics.completed metrics.failed
+answered metrics =
+    together (together metrics.completed metrics.failed) (together metrics.not_found metrics.refused)
 
 -- so many tasks in so many milliseconds are as many a second, rounded
 abbrev pub rate_of : (since more : ℕ) → ℕ
@@ -140,19 +149,19 @@ abbrev pub line_as : Format → Metrics → (rate : ℕ) → List ℕ
 line_as formats.Text metrics rate = counts_text metrics rate
 line_as formats.Json metrics rate = json_text metrics rate
 
--- what was counted in all: the totals of the host, what the sources counted, which runs were cached, and how long tasks
--- took
-abbrev pub end_metrics : Metrics → LiveEnd → Metrics
+-- what was counted in all: the totals of the host without the answers that were not taken, the polls of the sources,
+-- which runs were cached, and how long tasks took
+abbrev pub end_metrics : Metrics → WorkEnd → Metrics
 end_metrics metrics end = record {
-  completed = end.totals.completed;
-  failed = end.totals.failed;
+  completed = completed_of end.untaken end.live.totals.completed;
+  failed = failed_of end.untaken end.live.totals.failed;
   held = None;
   hits = metrics.hits;
   misses = metrics.misses;
-  polls = end.tally.polls;
-  empty_polls = end.tally.empty;
-  not_found = end.tally.not_found;
-  refused = end.tally.refused;
+  polls = end.live.tally.polls;
+  empty_polls = end.live.tally.empty;
+  not_found = end.untaken.not_found;
+  refused = refused_of end.untaken;
   workflow_times = metrics.workflow_times;
   activity_times = metrics.activity_times;
 }

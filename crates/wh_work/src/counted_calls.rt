@@ -1,28 +1,32 @@
 //! Calls that are counted.
 
-ghost use Rattle.std.specs.Prelude.{◌≡◌};
+ghost use Rattle.std.specs.Prelude.{◌≡◌, ◌↔◌, true, IfSome, MatchOption, None, Some};
 ghost use Rattle.serde_json.specs.View.{view};
 ghost use Rattle.wh_client.specs.Codes.{poll_end};
-ghost use Rattle.wh_work.specs.Calls.{IsAnswerRefusal, IsPoll, IsRefusal, end_of, is_acknowledged, refused_poll};
-ghost use Rattle.wh_work.specs.Progress.{has_no_task, is_answer, token_of};
+ghost use Rattle.wh_work.specs.Calls.{IsPoll, IsReplaced, IsTooLargeResponse, IsUntaken, IsUntakenAnswer};
+ghost use Rattle.wh_work.specs.Calls.{answered_token, end_of, given_token, is_acknowledged, refused_poll};
+ghost use Rattle.wh_work.specs.Progress.{completes, has_no_task, token_of};
 
-use crate::counting::{is_answer, kind_of, responds};
+use crate::counting::{completes, completes_workflow_task, is_answer, kind_of, responds};
 use crate::progress::Progress;
 use crate::task_times::BegunTask;
+use crate::untaken::AnswerCounter;
 use serde_json::Value;
 use std::alloc::Global;
 use std::sync::Wait;
 use std::time::Clock;
-use wh_client::{PollEnd, Status, poll_end, status_of};
+use wh_client::{PollEnd, Receipt, Status, poll_end, refused_answer, status_of};
 use wh_json::{field, text_of};
+use wh_responses::is_too_large;
 use wh_rpc::{CallFault, Caller, Outcome, Response};
 use wh_slots::SlotKind;
 
-/// Calls, whose polls and refused answers are counted, and whose tasks are timed, if anything is
-/// counted.
+/// Calls, of which the answers are counted that the server did not take; and polls are counted, and
+/// tasks timed, if that is reported or kept.
 #[derive(Drop)]
 pub(crate) struct CountedCalls<'a, C, R> {
     pub(crate) calls: &'a C,
+    pub(crate) answers: &'a AnswerCounter,
     pub(crate) progress: Option<&'a Progress<'a, R>>,
 }
 
@@ -64,30 +68,81 @@ fn poll_of(response: &Result<(u64, Outcome), CallFault>) -> Option<bool>
     }
 }
 
-/// With which status a call was refused, if it was.
-fn refusal_of(response: &Result<(u64, Outcome), CallFault>) -> Option<Status>
-    ensures { IsRefusal response.now result }
+/// The token of the task that a poll gave, if it gave one.
+fn given_token(response: &Result<(u64, Outcome), CallFault>) -> Option<&str>
+    ensures { MatchOption result (given_token response.now ≡ None)
+        (λ token. given_token response.now ≡ Some token.now) }
 {
     match response {
-        Ok((_, Outcome::Refused { code, .. })) => Some(status_of(*code)),
+        Ok((_, Outcome::Given(value))) => {
+            if has_no_task(value) {
+                None
+            } else {
+                Some(token_of(value))
+            }
+        }
         _ => None,
     }
 }
 
-/// With which status the answer to a task was refused, if the call is one and was.
-fn answer_refusal(method: &str, response: &Result<(u64, Outcome), CallFault>) -> Option<Status>
-    ensures { IsAnswerRefusal (is_answer method.now) response.now result }
+/// The token of the task or the query that a call answers, if it answers one.
+fn answered_token<'a>(method: &str, params: &'a Value) -> Option<&'a str>
+    ensures { MatchOption result (answered_token method.now (view params.entry.now) ≡ None)
+        (λ token. answered_token method.now (view params.entry.now) ≡ Some token.now) }
 {
-    if is_answer(method) {
-        refusal_of(response)
+    if responds(method) {
+        Some(token_of(params))
     } else {
         None
     }
 }
 
+/// Whether a call was refused because it is larger than the server accepts.
+fn is_refused_as_too_large(response: &Result<(u64, Outcome), CallFault>) -> bool
+    ensures { (result ≡ true) ↔ IsTooLargeResponse response.now }
+{
+    match response {
+        Ok((_, Outcome::Refused { code, message })) => is_too_large(*code, message.as_str()),
+        _ => false,
+    }
+}
+
+/// Whether a call completes a workflow task and is larger than the server accepts. The task is
+/// failed by another call then.
+fn is_replaced(method: &str, response: &Result<(u64, Outcome), CallFault>) -> bool
+    ensures { (result ≡ true) ↔ IsReplaced method.now response.now }
+{
+    completes_workflow_task(method) && is_refused_as_too_large(response)
+}
+
+/// What became of an answer, if the server did not take it. One that got no response is lost.
+fn untaken(response: &Result<(u64, Outcome), CallFault>) -> Option<Receipt>
+    ensures { IsUntaken response.now result }
+{
+    match response {
+        Ok((_, Outcome::Given(_))) => None,
+        Ok((_, Outcome::Refused { code, .. })) => Some(refused_answer(status_of(*code))),
+        Err(_) => Some(Receipt::Lost),
+    }
+}
+
+/// The same of a call, if it answers a task, and no other call answers the task in its place.
+fn untaken_answer(method: &str, response: &Result<(u64, Outcome), CallFault>) -> Option<Receipt>
+    ensures { IsUntakenAnswer method.now response.now result }
+{
+    if !is_answer(method) {
+        return None;
+    }
+    if is_replaced(method, response) {
+        None
+    } else {
+        untaken(response)
+    }
+}
+
 /// What becomes of a task when there is a response to its answer.
 #[derive(Clone, Copy)]
-enum TaskEnd {
+pub(crate) enum TaskEnd {
     /// How long it took is counted among the tasks of its kind.
     Timed(SlotKind),
     /// It is noted again, since its answer was not acknowledged.
@@ -117,40 +172,64 @@ fn end_of(method: &str, response: &Result<(u64, Outcome), CallFault>) -> TaskEnd
     }
 }
 
+/// What is counted of a call.
+#[derive(Clone, Copy)]
+struct CallCount {
+    /// What becomes of the task that it answers.
+    end: TaskEnd,
+    /// What became of the answer, if the server did not take it.
+    untaken: Option<Receipt>,
+    /// Whether it completes its task.
+    completes: bool,
+}
+
+/// What is counted of a call of this method, by what was responded to it.
+fn count_of(method: &str, response: &Result<(u64, Outcome), CallFault>) -> CallCount
+    ensures end { result.end ≡ end_of method.now response.now }
+    ensures untaken { IsUntakenAnswer method.now response.now result.untaken }
+    ensures completes { result.completes ≡ completes method.now }
+{
+    CallCount {
+        end: end_of(method, response),
+        untaken: untaken_answer(method, response),
+        completes: completes(method),
+    }
+}
+
 impl<C: Caller, R: Wait + Clock> CountedCalls<'_, C, R> {
     /// Notes the task that a poll gave, if tasks are timed.
     fn begin_task(&self, response: &Result<(u64, Outcome), CallFault>) {
-        if let (Some(progress), Ok((_, Outcome::Given(value)))) = (self.progress, response) {
-            if !has_no_task(value) {
-                progress.begin_task(self.calls.allocator(), token_of(value));
-            }
+        if let (Some(progress), Some(token)) = (self.progress, given_token(response)) {
+            progress.begin_task(self.calls.allocator(), token);
         }
     }
 
     /// The task that a call answers, if it is timed.
-    fn take_task(&self, method: &str, params: &Value) -> Option<BegunTask> {
-        match self.progress {
-            Some(progress) if responds(method) => progress.take_task(token_of(params)),
+    fn take_task(&self, method: &str, params: &Value) -> Option<BegunTask>
+        ensures { IfSome result (λ task. answered_token method.now (view params.now) ≡ Some task.token) }
+    {
+        match (self.progress, answered_token(method, params)) {
+            (Some(progress), Some(token)) => progress.take_task(token),
             _ => None,
         }
     }
 
-    /// Counts how long a task took whose answer was acknowledged, and notes it again if it was not.
-    /// A query is no task.
-    fn end_task(
-        &self,
-        method: &str,
-        begun: Option<BegunTask>,
-        response: &Result<(u64, Outcome), CallFault>,
-    ) {
-        let (Some(progress), Some(task)) = (self.progress, begun) else {
-            return;
-        };
-        match end_of(method, response) {
-            TaskEnd::Timed(kind) => progress.count_time(kind, &task),
-            TaskEnd::Noted => progress.put_back(task),
-            TaskEnd::Dropped => {}
+    /// Counts a call, which answers the task that was noted, if there is one.
+    fn add_call<Q: Wait>(&self, rt: &Q, begun: Option<BegunTask>, count: CallCount) {
+        if let Some(receipt) = count.untaken {
+            self.answers.add(rt, receipt, count.completes);
         }
+        if let (Some(progress), Some(task)) = (self.progress, begun) {
+            progress.end_task(count.end, task);
+        }
+    }
+
+    /// Counts a poll, and notes the task that it gave.
+    fn add_poll(&self, response: &Result<(u64, Outcome), CallFault>) {
+        if let (Some(progress), Some(is_empty)) = (self.progress, poll_of(response)) {
+            progress.count_poll(is_empty);
+        }
+        self.begin_task(response);
     }
 }
 
@@ -167,10 +246,7 @@ impl<C: Caller, R: Wait + Clock> Caller for CountedCalls<'_, C, R> {
     ) -> Result<(u64, Outcome), CallFault> {
         let begun = self.take_task(method, &params);
         let response = self.calls.call(rt, method, params);
-        self.end_task(method, begun, &response);
-        if let (Some(progress), Some(status)) = (self.progress, answer_refusal(method, &response)) {
-            progress.count_refusal(status);
-        }
+        self.add_call(rt, begun, count_of(method, &response));
         response
     }
 
@@ -181,10 +257,7 @@ impl<C: Caller, R: Wait + Clock> Caller for CountedCalls<'_, C, R> {
         params: Value,
     ) -> Result<(u64, Outcome), CallFault> {
         let response = self.calls.poll(rt, method, params);
-        if let (Some(progress), Some(is_empty)) = (self.progress, poll_of(&response)) {
-            progress.count_poll(is_empty);
-        }
-        self.begin_task(&response);
+        self.add_poll(&response);
         response
     }
 

@@ -2,12 +2,12 @@
 
 ghost use Rattle.std.specs.List.{starts_with};
 ghost use Rattle.std.specs.Prelude.{◌≡◌, ◌≤◌, ◌-◌, bytes_eq, codes, max, nat_eq};
-ghost use Rattle.wh_work.specs.Progress.{answered, answers_activity_task, answers_workflow_task, ended, found};
-ghost use Rattle.wh_work.specs.Progress.{held_of, is_answer, kind_of, metrics_now, nothing};
-ghost use Rattle.wh_work.specs.Progress.{rate_of, slots_of, with_poll, with_refusal, with_turn};
+ghost use Rattle.wh_work.specs.Progress.{answered, answers_activity_task, answers_workflow_task, completes, ended};
+ghost use Rattle.wh_work.specs.Progress.{found, held_of, is_answer, kind_of, metrics_now, no_lower, nothing};
+ghost use Rattle.wh_work.specs.Progress.{rate_of, slots_of, with_poll, with_turn};
 
 use crate::task_times::no_times;
-use wh_client::{Receipt, Status, refused_answer};
+use crate::untaken::UntakenAnswers;
 use wh_host::{Counts, Outcome};
 use wh_metrics::{Held, Metrics, Slots};
 use wh_poll::{Served, SourceFault};
@@ -77,17 +77,6 @@ pub(crate) fn add_poll(metrics: &mut Metrics, is_empty: bool)
     }
 }
 
-/// Counts an answer that was refused with a status.
-pub(crate) fn add_refusal(metrics: &mut Metrics, status: Status)
-    ensures { metrics.new ≡ with_refusal status metrics.old }
-{
-    match refused_answer(status) {
-        Receipt::NotFound => metrics.not_found = metrics.not_found.saturating_add(1),
-        Receipt::Invalid => metrics.refused = metrics.refused.saturating_add(1),
-        _ => {}
-    }
-}
-
 /// Whether a call of this method answers a task or a query.
 pub(crate) fn responds(method: &str) -> bool
     ensures { result ≡ starts_with nat_eq method.now (codes "Respond") }
@@ -109,11 +98,25 @@ pub(crate) fn is_answer(method: &str) -> bool
     responds(method) && !answers_query(method)
 }
 
+/// Whether a call of this method completes a workflow task.
+pub(crate) fn completes_workflow_task(method: &str) -> bool
+    ensures { result ≡ bytes_eq method.now (codes "RespondWorkflowTaskCompleted") }
+{
+    method == "RespondWorkflowTaskCompleted"
+}
+
+/// Whether a call of this method completes a task.
+pub(crate) fn completes(method: &str) -> bool
+    ensures { result ≡ completes method.now }
+{
+    completes_workflow_task(method) || method == "RespondActivityTaskCompleted"
+}
+
 /// Whether a call of this method answers a workflow task.
 fn answers_workflow_task(method: &str) -> bool
     ensures { result ≡ answers_workflow_task method.now }
 {
-    method == "RespondWorkflowTaskCompleted" || method == "RespondWorkflowTaskFailed"
+    completes_workflow_task(method) || method == "RespondWorkflowTaskFailed"
 }
 
 /// Whether a call of this method answers an activity task.
@@ -159,29 +162,57 @@ fn held_of(counts: Counts) -> Held
     }
 }
 
-/// What is counted now. The tasks that ended are those of the host, if it gives them.
-pub(crate) fn metrics_now(metrics: Metrics, counts: Option<Counts>) -> Metrics
-    ensures { result ≡ metrics_now metrics counts }
+/// What is counted now, without the answers that the server did not take. The tasks that ended are
+/// those of the host, if it gives them; otherwise those that turns told of, which is none whose
+/// answer was lost.
+pub(crate) fn metrics_now(
+    metrics: Metrics,
+    answers: UntakenAnswers,
+    counts: Option<Counts>,
+) -> Metrics
+    ensures { result ≡ metrics_now metrics answers counts }
 {
     match counts {
         Some(counts) => Metrics {
-            completed: counts.completed,
-            failed: counts.failed,
+            completed: answers.completed(counts.completed),
+            failed: answers.failed(counts.failed),
             held: Some(held_of(counts)),
+            not_found: answers.not_found,
+            refused: answers.refused(),
             ..metrics
         },
-        None => metrics,
+        None => Metrics {
+            completed: answers.completed(metrics.completed),
+            failed: metrics.failed.saturating_sub(answers.failures()),
+            not_found: answers.not_found,
+            refused: answers.refused(),
+            ..metrics
+        },
     }
 }
 
-/// How many tasks were answered.
+/// The counts, of which those of tasks are no lower than they were last. An answer that the server
+/// did not take is counted before the host has finished its task, so they could fall for a moment,
+/// which Prometheus takes for a new process.
+pub(crate) fn no_lower(last: Metrics, now: Metrics) -> Metrics
+    ensures { result ≡ no_lower last now }
+{
+    Metrics {
+        completed: last.completed.max(now.completed),
+        failed: last.failed.max(now.failed),
+        ..now
+    }
+}
+
+/// How many tasks are over.
 pub(crate) fn answered(metrics: &Metrics) -> u64
     ensures { result ≡ answered metrics.now }
 {
-    metrics.completed.saturating_add(metrics.failed)
+    let taken = metrics.completed.saturating_add(metrics.failed);
+    taken.saturating_add(metrics.not_found.saturating_add(metrics.refused))
 }
 
-/// How many tasks were answered a second, of so many in as many milliseconds, rounded.
+/// How many tasks ended a second, of so many in as many milliseconds, rounded.
 pub(crate) fn rate_of(since: u64, more: u64) -> u64
     requires { 1 ≤ since }
     ensures { result ≡ rate_of since more }

@@ -3,6 +3,7 @@
 #![tactic(auto)]
 
 mod calls;
+mod counted;
 mod counted_calls;
 mod counting;
 pub mod laws;
@@ -13,6 +14,7 @@ mod policies;
 mod progress;
 mod report;
 mod task_times;
+mod untaken;
 mod watch;
 mod workers;
 
@@ -21,5 +23,6 @@ pub use metrics_file::{FileReplacer, ReplaceFault};
 pub use metrics_path::Obstacle;
 pub use plan::{LivePlan, live_plan};
 pub use policies::{BadPolicies, PlanFault};
-pub use report::{LiveReport, live_status};
+pub use report::{LiveReport, WorkEnd, live_status};
+pub use untaken::UntakenAnswers;
 pub use workers::serve_calls;

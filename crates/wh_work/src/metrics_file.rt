@@ -7,6 +7,7 @@ ghost use Rattle.wh_work.specs.MetricsPaths.{replace_words, unwritten_words};
 ghost use Rattle.wh_work.specs.Progress.{end_metrics};
 
 use crate::metrics_path::{Obstacle, obstacle_at, path_beside};
+use crate::report::WorkEnd;
 use std::alloc::{AllocError, Global};
 use std::fs;
 use std::rt::Files;
@@ -35,22 +36,24 @@ fn exposed(alloc: Global, labels: WorkerLabels<'_>, metrics: Metrics) -> Result<
     format!(in alloc; "{exposition}")
 }
 
-/// What all workers have counted in the end: the totals of the host, what their calls have counted,
-/// which runs were cached, and how long tasks took. The host holds nothing then.
-pub(crate) fn end_metrics(metrics: &Metrics, end: &LiveEnd) -> Metrics
+/// What all workers have counted in the end: the totals of the host, without the answers that the
+/// server did not take, these answers, the polls, which runs were cached, and how long tasks took.
+/// The host holds nothing then.
+pub(crate) fn end_metrics(metrics: &Metrics, end: &WorkEnd) -> Metrics
     ensures { result ≡ end_metrics metrics.now end.now }
 {
-    let LiveEnd { totals, tally } = *end;
+    let WorkEnd { live, untaken } = *end;
+    let LiveEnd { totals, tally } = live;
     Metrics {
-        completed: totals.completed,
-        failed: totals.failed,
+        completed: untaken.completed(totals.completed),
+        failed: untaken.failed(totals.failed),
         held: None,
         hits: metrics.hits,
         misses: metrics.misses,
         polls: tally.polls,
         empty_polls: tally.empty,
-        not_found: tally.not_found,
-        refused: tally.refused,
+        not_found: untaken.not_found,
+        refused: untaken.refused(),
         workflow_times: metrics.workflow_times,
         activity_times: metrics.activity_times,
     }

@@ -1,6 +1,6 @@
 //! How long tasks take.
 
-ghost use Rattle.std.specs.Prelude.{◌≡◌, ◌∷◌, ◌++◌, [], OnErr, OnOk, option_and_then, slice_get};
+ghost use Rattle.std.specs.Prelude.{◌≡◌, ◌∷◌, ◌++◌, [], IfSome, OnErr, OnOk, option_and_then, slice_get};
 ghost use Rattle.wh_work.specs.Times.{lasted, no_times, place_of, with_room, with_time, without};
 
 use std::alloc::Global;
@@ -23,7 +23,7 @@ pub(crate) struct BegunTask {
 /// Tasks that polls gave, and whose answers are not acknowledged, the oldest first.
 #[derive(Drop)]
 pub(crate) struct BegunTasks {
-    tasks: Vec<BegunTask>,
+    pub(crate) tasks: Vec<BegunTask>,
 }
 
 /// The place of the task of this token.
@@ -73,6 +73,7 @@ impl BegunTasks {
             ≡ option_and_then (slice_get self.old.tasks.items) (place_of token.now self.old.tasks.items) }
         ensures left { self.new.tasks.items
             ≡ without (place_of token.now self.old.tasks.items) self.old.tasks.items }
+        ensures own { IfSome result (λ task. task.token ≡ token.now) }
     {
         match place_of(self.tasks.as_slice(), token) {
             Some(place) => Some(self.tasks.remove(place)),

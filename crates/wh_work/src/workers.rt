@@ -8,6 +8,8 @@ use crate::counted_calls::CountedCalls;
 use crate::metrics_file::{FileReplacer, MetricsFile};
 use crate::plan::LivePlan;
 use crate::progress::Progress;
+use crate::report::WorkEnd;
+use crate::untaken::AnswerCounter;
 use crate::watch::Watch;
 use std::alloc::Global;
 use std::sync::{Arc, Wait};
@@ -15,7 +17,7 @@ use std::thread::Threads;
 use std::time::Clock;
 use wh_activities::{HeartbeatHandler, WithHeartbeat};
 use wh_commands::WorkerNames;
-use wh_crew::{LiveEnd, LiveHeartbeat, serve_live};
+use wh_crew::{LiveHeartbeat, serve_live};
 use wh_events::OutOfMemory;
 use wh_heartbeat::ActivityCell;
 use wh_host::OpenFault;
@@ -86,6 +88,7 @@ fn progress_of<'a, R: Wait + Clock>(
     alloc: Global,
     name: &'a str,
     plan: &'a LivePlan,
+    answers: &'a AnswerCounter,
 ) -> Result<Option<Progress<'a, R>>, OutOfMemory>
     ensures { IfOk result (λ progress.
         is_some progress ≡ (is_some plan.now.stats || is_some plan.now.metrics)) }
@@ -94,14 +97,14 @@ fn progress_of<'a, R: Wait + Clock>(
     if plan.stats.is_none() && file.is_none() {
         return Ok(None);
     }
-    let progress = Progress::new(rt, alloc, name, plan.stats, plan.format, file);
+    let progress = Progress::new(rt, alloc, name, plan.stats, plan.format, file, answers);
     Ok(Some(progress))
 }
 
 /// Reports and keeps the counts of the end, if they are counted.
 fn note_end<R: Wait + Eprint + FileReplacer + AllocGlobal>(
     progress: Option<&Progress<R>>,
-    end: &LiveEnd,
+    end: &WorkEnd,
 ) {
     if let Some(progress) = progress {
         progress.end(end);
@@ -124,16 +127,17 @@ fn serve_cells<
     make: &M,
     plan: &LivePlan,
     cells: &[Arc<ActivityCell>],
-) -> Result<LiveEnd, OutOfMemory>
+) -> Result<WorkEnd, OutOfMemory>
 where
     L: Drop,
     requires sizes { IsConfig plan.now.config }
     requires seats { length cells.now ≡ plan.now.config.seats }
     requires listens { L.IsAlwaysCallable listen }
     requires makes { M.IsAlwaysCallable make.now }
-    ensures served { IfOk result (AreServed plan.now.config plan.now.options plan.now.workers) }
-    ensures balanced { IfOk result (λ end.
-        end.totals.taken ≡ end.totals.completed + end.totals.failed + end.totals.in_hand) }
+    ensures served { IfOk result (λ end.
+        AreServed plan.now.config plan.now.options plan.now.workers end.live) }
+    ensures balanced { IfOk result (λ end. end.live.totals.taken
+        ≡ end.live.totals.completed + end.live.totals.failed + end.live.totals.in_hand) }
 {
     let alloc = calls.allocator();
     let crew = match crew_of(rt, alloc, calls, &plan.options.names, make, cells) {
@@ -163,7 +167,9 @@ where
         calls.progress,
     );
     match end {
-        Ok(end) => {
+        Ok(live) => {
+            let untaken = calls.answers.now(rt);
+            let end = WorkEnd { live, untaken };
             note_end(calls.progress, &end);
             Ok(end)
         }
@@ -187,15 +193,16 @@ fn serve_counted<
     listen: L,
     make: &M,
     plan: &LivePlan,
-) -> Result<LiveEnd, OutOfMemory>
+) -> Result<WorkEnd, OutOfMemory>
 where
     L: Drop,
     requires sizes { IsConfig plan.now.config }
     requires listens { L.IsAlwaysCallable listen }
     requires makes { M.IsAlwaysCallable make.now }
-    ensures served { IfOk result (AreServed plan.now.config plan.now.options plan.now.workers) }
-    ensures balanced { IfOk result (λ end.
-        end.totals.taken ≡ end.totals.completed + end.totals.failed + end.totals.in_hand) }
+    ensures served { IfOk result (λ end.
+        AreServed plan.now.config plan.now.options plan.now.workers end.live) }
+    ensures balanced { IfOk result (λ end. end.live.totals.taken
+        ≡ end.live.totals.completed + end.live.totals.failed + end.live.totals.in_hand) }
 {
     match cells_of(calls.allocator(), plan.config.seats) {
         Ok(cells) => {
@@ -240,20 +247,22 @@ pub fn serve_calls<
     listen: L,
     make: &M,
     plan: LivePlan,
-) -> Result<LiveEnd, OutOfMemory>
+) -> Result<WorkEnd, OutOfMemory>
 where
     L: Drop,
     requires sizes { IsConfig plan.config }
     requires listens { L.IsAlwaysCallable listen }
     requires makes { M.IsAlwaysCallable make.now }
-    ensures served { IfOk result (AreServed plan.config plan.options plan.workers) }
-    ensures balanced { IfOk result (λ end.
-        end.totals.taken ≡ end.totals.completed + end.totals.failed + end.totals.in_hand) }
+    ensures served { IfOk result (λ end. AreServed plan.config plan.options plan.workers end.live) }
+    ensures balanced { IfOk result (λ end. end.live.totals.taken
+        ≡ end.live.totals.completed + end.live.totals.failed + end.live.totals.in_hand) }
 {
-    match progress_of(rt, calls.allocator(), name, &plan) {
+    let answers = AnswerCounter::new();
+    match progress_of(rt, calls.allocator(), name, &plan, &answers) {
         Ok(progress) => {
             let counted = CountedCalls {
                 calls,
+                answers: &answers,
                 progress: progress.as_ref(),
             };
             let end = serve_counted::<W, R, C, L, B, M>(rt, name, &counted, listen, make, &plan);

@@ -5,7 +5,6 @@ use Rattle.wh_command_line.specs.declared.command_line.Plan.{Plan}
 use Rattle.wh_command_line.specs.declared.command_line.Plan.TheVariants.{Replay, Explain, Page, View, Query, Check, Picture, Try, Serve, Work, Help}
 use Rattle.wh_command_line.specs.declared.work.WorkOptions.{WorkOptions}
 use Rattle.wh_console.specs.Consoles.{ConsoleView, IsQuiet, Reported}
-use Rattle.wh_crew.specs.declared.serving.LiveEnd.{LiveEnd}
 use Rattle.wh_diagnostics.specs.Failures.{input_failure}
 use Rattle.wh_diagnostics.specs.Printing.{HasPrinted}
 use Rattle.wh_diagnostics.specs.declared.failures.Failure.{Failure}
@@ -31,13 +30,14 @@ use Rattle.wh_work.specs.Reports.{live_as, live_status}
 use Rattle.wh_work.specs.declared.plan.LivePlan.{LivePlan}
 use Rattle.wh_work.specs.declared.policies.PlanFault.{PlanFault}
 use Rattle.wh_work.specs.declared.policies.PlanFault.TheVariants as faults
+use Rattle.wh_work.specs.declared.report.WorkEnd.{WorkEnd}
 use Rattle.wh_workflow.specs.Law.{Program}
 
 -- live tasks were served as the options ask for, how they ended was reported, and the status is that of their end
 pub record HasWorked (lives : LivesBy) (options : WorkOptions) (old new : ConsoleView) (status : ℕ) : Type 0 where
   pub plan : LivePlan
   pub planned : IsLivePlan options plan
-  pub end : LiveEnd
+  pub end : WorkEnd
   pub served : lives plan end
   pub reported : Reported old new (λ name. live_as plan.format end)
   pub ends : status ≡ live_status end
