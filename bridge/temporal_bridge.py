@@ -41,6 +41,8 @@ if os.getpid() == 1:  # In a container, where these signals do nothing by defaul
     for number in (signal.SIGINT, signal.SIGTERM):
         signal.signal(number, lambda number, _: os._exit(128 + number))
 os.environ.setdefault("GRPC_VERBOSITY", "NONE")  # This program reports each error itself, once.
+# How often gRPC looks, while no call is open, whether a connection is there again: every five seconds by default.
+os.environ.setdefault("GRPC_CLIENT_CHANNEL_BACKUP_POLL_INTERVAL_MS", "250")
 
 # A worker has at most 64 requests open, each in a thread.
 MOST_CALLS = 80
