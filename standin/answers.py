@@ -126,7 +126,8 @@ class Answers:
             peer.counts["hits"] += 1
             given.hits += 1
             if given.last_cached != given.before:
-                where = f"a cached run that ends in {given.last_cached}, not {given.before}"
+                kind = f"at attempt {given.task.attempt}, given {given.times} times" + (", speculative" if given.is_speculative else "")
+                where = f"a cached run that ends in {given.last_cached}, not {given.before}, {kind}"
                 self.findings.blame(peer, f"{workflow_id} was answered from {where}")
             elif given.hits > 1:
                 self.findings.blame(peer, f"{workflow_id} was answered twice from one cached run")

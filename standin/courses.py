@@ -28,12 +28,16 @@ STACK_TRACE = "There is no stack trace: this worker runs a workflow as steps of 
 
 
 class Payload(bytes):
-    """The content of a payload, with its encoding."""
+    """The content of a payload, with its metadata."""
 
-    encoding = ""
+    metadata = {}
+
+    def __repr__(self):
+        more = {name: value for name, value in self.metadata.items() if name != "encoding"}
+        return super().__repr__() + (f" with {more}" if more else "")
 
     def __eq__(self, other):
-        return bytes(self) == bytes(other) and self.encoding == other.encoding
+        return bytes(self) == bytes(other) and self.metadata == other.metadata
 
     def __ne__(self, other):
         return not self == other
@@ -46,7 +50,7 @@ def payloads_in(attributes, name):
     found = []
     for one in (attributes.get(name) or {}).get("payloads", []):
         payload = Payload(base64.b64decode(one.get("data", "")))
-        payload.encoding = one.get("metadata", {}).get("encoding", "")
+        payload.metadata = {key: value for key, value in one.get("metadata", {}).items() if value}
         found.append(payload)
     return found
 

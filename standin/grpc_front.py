@@ -20,6 +20,8 @@ from clients import Clients
 from definitions import CLASSES
 from forwarder import Forwarder
 from peers import CANCELLED, DEADLINE, EXHAUSTED, NOT_FOUND, UNAVAILABLE, Peer, Refused
+from plans import Call, Plan
+from processes import children_of, kill
 
 TOP = Path(__file__).resolve().parent
 CODES = {code.value[0]: code for code in grpc.StatusCode}
@@ -32,6 +34,8 @@ MOST_THREADS = 400
 QUERY_SECONDS = 8
 # After how many seconds a bridge notices that its connection is dead.
 DEAD_SECONDS = 60
+# The status of a bridge whose worker was killed, and within how many seconds it has ended then.
+KILLED, END_SECONDS = 128 + signal.SIGKILL, 10
 
 
 class Waiting:
@@ -47,16 +51,17 @@ class Waiting:
 
 class Calls(grpc.GenericRpcHandler):
     """The server after a port. A worker is known by the identity in its requests, and where a request has none by its
-    connection. Where `is_open`, whoever says a new identity is a worker, and all others are clients."""
+    connection. Where `is_open`, whoever says a new identity is a worker, and all others are clients. The faults of `plan` come
+    before the server's own trouble."""
 
     def __init__(self, server, is_open=False):
-        self.server, self.troubles, self.is_open = server, server.troubles, is_open
+        self.server, self.troubles, self.is_open, self.plan = server, server.troubles, is_open, Plan()
         self.lock, self.last = threading.RLock(), time.monotonic()
         self.clients, self.by_identity, self.by_connection = Clients(server), {}, {}
 
-    def listen(self, port=0):
-        """Begins to accept calls, on a port of its own choice if none is given."""
-        self.listener = grpc.server(ThreadPoolExecutor(MOST_THREADS))
+    def listen(self, port=0, options=()):
+        """Begins to accept calls, on a port of its own choice if none is given, with further options of gRPC."""
+        self.listener = grpc.server(ThreadPoolExecutor(MOST_THREADS), options=options)
         self.listener.add_generic_rpc_handlers([self])
         self.port = self.listener.add_insecure_port(f"127.0.0.1:{port}")
         self.listener.start()
@@ -79,24 +84,35 @@ class Calls(grpc.GenericRpcHandler):
         )
 
     def take(self, method, message, context):
-        """Handles a call and returns its response."""
-        response = CLASSES[method + "Response"]
+        """Handles a call, unless a fault of it is planned, and returns its response."""
+        params = json_format.MessageToDict(message)
+        call = Call(method, params, context, lambda: self.handle(method, params, context), lambda: self.lose(params, context))
+        result, error = self.plan.answer(call)
+        if error is not None:
+            context.abort(CODES[error[0]], error[1])
+        return json_format.ParseDict(result, CLASSES[method + "Response"]())
+
+    def handle(self, method, params, context):
+        """Handles a call and returns its result and its error."""
         if method == "GetSystemInfo":
-            return response(server_version="stand-in")
-        params, own = json_format.MessageToDict(message), self.server.settings.namespace
+            return {"serverVersion": "stand-in"}, None
+        own = self.server.settings.namespace
         if self.is_open and params.get("namespace", own) != own:
-            context.abort(CODES[NOT_FOUND], f"Namespace {params['namespace']} is not found.")
+            return None, (NOT_FOUND, f"Namespace {params['namespace']} is not found.")
         with self.lock:
             peer = None if self.is_of_clients_alone(method) else self.peer_of(params, context)
         if peer is None and self.is_open and method in self.clients.later:
-            result, error = self.of_client_later(method, params)
-        elif peer is None and self.is_open and method in self.clients.calls:
-            result, error = self.of_client(method, params)
-        else:
-            result, error = self.of_worker(peer, method, params, context)
-        if error is not None:
-            context.abort(CODES[error[0]], error[1])
-        return json_format.ParseDict(result, response())
+            return self.of_client_later(method, params)
+        if peer is None and self.is_open and method in self.clients.calls:
+            return self.of_client(method, params)
+        return self.of_worker(peer, method, params, context)
+
+    def lose(self, params, context):
+        """Notes that the response to a worker's call may not come through."""
+        with self.lock:
+            peer = self.peer_of(params, context)
+            if peer is not None:
+                peer.lose_connection()
 
     def is_of_clients_alone(self, method):
         return method in (self.clients.calls | self.clients.later) and method not in self.server.calls
@@ -228,6 +244,8 @@ class Front:
                 self.weather.pass_by()
             all_wait = self.server.go_on(time.monotonic() - self.calls.last)
             for process in [process for process in self.processes if process.child.poll() is not None]:
+                if not self.is_ending:
+                    self.server.findings.blame(process.peer, f"it has ended: {process.report()[-500:]}")
                 self.leave(process)
         time.sleep(0.0005 if all_wait else 0.005)
 
@@ -238,12 +256,29 @@ class Front:
     def kill(self, process):
         """Kills a bridge; its worker ends by itself."""
         process.child.kill()
-        process.child.wait()
+        self.wait_for(process, -signal.SIGKILL)
+
+    def cut(self, process):
+        """Kills the worker behind a bridge, which ends by itself; or the bridge, if it has not started one yet."""
+        workers = children_of(process.child.pid)
+        if not workers:
+            return self.kill(process)
+        for worker in workers:
+            kill(worker)
+        self.wait_for(process, KILLED)
+
+    def wait_for(self, process, status):
+        """Waits for the end of a bridge, which has to have this status."""
+        try:
+            ended = process.child.wait(END_SECONDS)
+        except subprocess.TimeoutExpired:
+            process.child.kill()
+            ended = process.child.wait()
         with self.calls.lock:
+            if ended != status:
+                self.server.findings.blame(process.peer, f"it ends with {ended}, not {status}: {process.report()[-500:]}")
             if process in self.processes:
                 self.leave(process)
-
-    cut = kill
 
     def stop_all(self, seconds):
         """Sends all bridges a signal to end, and waits for them."""
@@ -256,6 +291,7 @@ class Front:
             self.turn()
         for process in list(self.processes):
             self.server.findings.blame(process.peer, "it does not end when it is told to")
-            self.kill(process)
+            process.child.kill()
+            self.wait_for(process, -signal.SIGKILL)
         self.calls.listener.stop(None)
         return left

@@ -10,12 +10,13 @@ class Pages:
     """The pages that are still to come of the histories that were given in part."""
 
     def __init__(self, troubles):
-        self.troubles = troubles
-        self.rest = {}
+        self.troubles, self.rest = troubles, {}
+        # How many events the next pages have, if that is planned: an endless iterator.
+        self.lengths = None
 
     def first(self, execution, events):
         """Returns the first page of a list of events, and the token of the next one, or an empty text."""
-        if self.troubles.happens("pages"):
+        if self.lengths or self.troubles.happens("pages"):
             return self.cut(execution, events)
         return events, ""
 
@@ -28,8 +29,8 @@ class Pages:
 
     def cut(self, execution, events):
         dice = self.troubles.dice
-        length = dice.choice([0, 1, 2, 3, 5, 8, 100])
-        if length >= len(events) and dice.random() < 0.8:
+        length = next(self.lengths) if self.lengths else dice.choice([0, 1, 2, 3, 5, 8, 100])
+        if length >= len(events) and (self.lengths or dice.random() < 0.8):
             return events, ""
         token = base64.b64encode(f"page {len(self.rest) + 1}".encode()).decode()
         self.rest[token] = (execution, events[length:])

@@ -240,12 +240,12 @@ class Run:
         self.append("WorkflowTaskCompleted", completed)
         self.before = task.started
         self.task, self.attempt = None, 1
-        self.server.queries.ask_again(task)
+        self.server.queries.ask_again(self, task)
 
     def drop_task(self):
         """Completes a speculative task that did nothing: no trace of it is left."""
         task, self.task, self.attempt = self.task, None, 1
-        self.server.queries.ask_again(task)
+        self.server.queries.ask_again(self, task)
 
     def end_task(self, kind, attributes):
         """Ends a task that failed or timed out: what was held back is written, and the run is no longer sticky."""
@@ -256,7 +256,7 @@ class Run:
         if task.is_written:
             self.append(kind, {**numbers, **attributes})
         self.attempt = 1 if self.flush() else task.attempt + 1
-        self.server.queries.ask_again(task)
+        self.server.queries.ask_again(self, task)
 
     def leave_sticky(self, is_recorded):
         """Moves the task from a sticky queue, from which nobody takes it, to the normal queue, with a timeout's event
@@ -283,4 +283,5 @@ class Run:
         self.append(kind, attributes)
         self.task = None
         self.closed = kind
+        self.server.queries.settle(self)
         self.server.runs.closed(self, attributes)

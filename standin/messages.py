@@ -53,7 +53,7 @@ def one_of(*texts):
     return lambda value: value in texts
 
 
-PAYLOADS = {"payloads?": [{"data?": is_base64, "metadata?": {"encoding?": is_base64}}]}
+PAYLOADS = {"payloads?": [{"data?": is_base64, "metadata?": {"*": is_base64}}]}
 QUEUE = {"name": is_text}
 NAMED = {"name": is_text}
 FAILURE = {

@@ -29,6 +29,8 @@ HOSTILE = [
     b'[{"jsonrpc":"2.0","id":%d,"result":{"taskToken":"\xff\xfe"}}]',
     b"[" * 1000,
 ]
+# For how many seconds requests are waited for at once, while a task is being processed, and if only a poll is missing.
+LONG_WAIT, SHORT_WAIT = 0.01, 0.001
 # Within how many seconds a worker has read a shutdown notice.
 KNOWS_SECONDS = 3
 
@@ -78,7 +80,7 @@ class Pipes:
             self.server.world.begin()
         for process in self.processes:
             self.write(process)
-        wait = 0 if self.server.all_wait() else 0.01
+        wait = 0 if self.server.all_wait() else LONG_WAIT if self.server.in_hand else SHORT_WAIT
         for key, _ in self.selector.select(wait):
             self.take(key.data)
         self.server.go_on(time.monotonic() - self.last)

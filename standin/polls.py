@@ -5,8 +5,8 @@ from collections import deque
 
 from peers import CANCELLED, DEADLINE, INVALID, OUTAGE_CODES
 
-# Within how many milliseconds the open polls of a process are ended with code 1.
-CANCEL_WITHIN = 5_000
+# Within how many milliseconds the open polls of a process are ended with code 1, and for how many all are refused.
+CANCEL_WITHIN, OUTAGE = 5_000, 60_000
 
 
 class Poll:
@@ -65,6 +65,7 @@ class Polling:
 
     def __init__(self, server):
         self.server, self.troubles, self.polls = server, server.troubles, server.polls
+        self.refused_until = 0
 
     def take(self, peer, is_activity, params, reply):
         fault = self.fault(peer, is_activity, params["taskQueue"])
@@ -72,7 +73,7 @@ class Polling:
             self.server.findings.blame(peer, fault)
             return reply(None, (INVALID, fault))
         peer.counts["polls"] += 1
-        if self.troubles.happens("codes"):
+        if self.is_refused():
             code = self.troubles.dice.choice(OUTAGE_CODES)
             peer.counts["late polls"] += code == DEADLINE
             return reply(None, (code, "the server can't answer now"))
@@ -85,6 +86,13 @@ class Polling:
         queue = is_activity, params["taskQueue"]["name"]
         self.polls.add(queue, Poll(peer, reply))
         self.server.queues.dispatch(queue)
+
+    def is_refused(self):
+        """Returns whether a poll is refused for now, alone or as all are."""
+        now = self.server.clock.now
+        if now >= self.refused_until and self.troubles.happens("outage"):
+            self.refused_until = now + OUTAGE
+        return now < self.refused_until or self.troubles.happens("codes")
 
     def fault(self, peer, is_activity, queue):
         """Returns what is wrong with the queue of a poll, or an empty text."""

@@ -4,7 +4,8 @@ A query on its own waits in the sticky queue of its run, and after a while in th
 is when a poll takes it. Its answer is from the state after the last completed task: of the history that was given, of
 one that the run has had since, or of one that the worker fetched meanwhile. A query with a task is answered with that
 task, from the state after the task. One that the answer omits, or whose task nobody completes, is sent again on its
-own.
+own. Where queries follow tasks, as in a server, one of a run that has a task waits: it comes with the next task that is given,
+and on its own once there is none.
 """
 
 import base64
@@ -54,6 +55,8 @@ class Queries:
         # Those that a poll has taken, by their tokens; how many are sent and not answered; and whether answers are
         # judged, or only their form.
         self.taken, self.open, self.is_judged = {}, 0, False
+        # Whether queries of clients follow tasks, and those that do, by their runs.
+        self.follow_tasks, self.waiting = False, {}
 
     # How they are sent.
 
@@ -69,7 +72,14 @@ class Queries:
         """Sends a query of a real client."""
         self.open += 1
         self.counts["asked"] += 1
-        self.offer(Asked(run, kind, values, then))
+        self.waiting.setdefault(run, []).append(Asked(run, kind, values, then))
+        self.settle(run)
+
+    def settle(self, run):
+        """Sends the queries of a run on their own that wait, unless they follow a task."""
+        if run in self.waiting and not (self.follow_tasks and run.task):
+            for asked in self.waiting.pop(run):
+                self.offer(asked)
 
     def ask(self, poll, run, is_sticky):
         """Gives a query to a poll now."""
@@ -79,7 +89,7 @@ class Queries:
 
     def offer(self, asked):
         """Lets a query wait to be taken."""
-        if asked.run.sticky:
+        if asked.run.sticky and asked.run.sticky[0] not in self.server.tasks.given_up:
             self.offer_in(asked, asked.run.sticky[0])
         else:
             self.offer_in(asked, asked.run.queue)
@@ -157,11 +167,7 @@ class Queries:
         self.server.in_hand.discard(token, peer)
         self.counts["queries answered"] += 1
         self.judge(peer, taken, answer_in(params, "completedType", "queryResult"))
-        taken.asked.is_answered = True
-        self.open -= 1
-        if taken.asked.then:
-            is_answered = params["completedType"] == ANSWERED
-            taken.asked.then(is_answered, params.get("queryResult", {}) if is_answered else params.get("errorMessage", ""))
+        self.end(taken.asked, params, "completedType", "queryResult")
         return {}
 
     def give_up(self, peer, params):
@@ -192,8 +198,14 @@ class Queries:
 
     # Queries with a task.
 
+    def of_task(self, run):
+        """Returns the queries that come with the task of a run, by their names."""
+        if self.server.troubles.happens("queries"):
+            return self.beside(run)
+        return {f"query {at}": asked for at, asked in enumerate(self.waiting.pop(run, []))}
+
     def beside(self, run):
-        """Returns queries that come with a task, by their names."""
+        """Returns queries that are made to come with a task, by their names."""
         dice, workflows = self.server.troubles.dice, self.server.world.workflows
         found = {f"query {at}": Asked(run, *workflows.asks(run)) for at in range(dice.randrange(1, MOST_BESIDE + 1))}
         self.open += len(found)
@@ -216,15 +228,26 @@ class Queries:
                 what = f"the query {asked.kind} beside a task of {run.kind} {run.workflow_id}"
                 self.server.findings.blame(peer, f"{what} is answered by {given}, and not by {right}")
             self.counts["answered beside"] += 1
-            asked.is_answered = True
-            self.open -= 1
+            self.end(asked, results[name], "resultType", "answer")
 
-    def ask_again(self, task):
-        """Sends the queries of a task that is over again on their own, if nobody has answered them."""
+    def end(self, asked, params, kind, payloads):
+        """Hands on the answer of a query."""
+        asked.is_answered = True
+        self.open -= 1
+        if asked.then:
+            is_answered = params[kind] == ANSWERED
+            asked.then(is_answered, params.get(payloads, {}) if is_answered else params.get("errorMessage", ""))
+
+    def ask_again(self, run, task):
+        """Sends the queries of a run's task that is over again, if nobody has answered them: on their own, or with the next
+        task if they follow tasks and there is one soon."""
         queries, task.queries = task.queries, {}
-        for asked in queries.values():
-            if not asked.is_answered:
-                self.offer(asked)
+        left = [asked for asked in queries.values() if not asked.is_answered]
+        if left:
+            self.waiting.setdefault(run, []).extend(left)
+        if not self.follow_tasks:
+            return self.settle(run)
+        self.server.clock.at(0, lambda: self.settle(run))
 
 
 def text_begins(token):

@@ -1,6 +1,10 @@
 """Runs from outside: how they start, what comes to them, and what follows when one closes."""
 
+from findings import token_of
 from history import Run, carried_over, left_out
+
+# What a client with a codec adds to the metadata of payloads.
+OF_CODEC = {"encryption-key-id": token_of("key-7"), "messageType": token_of("shop.Order")}
 
 
 class Runs:
@@ -14,6 +18,7 @@ class Runs:
         """Starts a run, or returns None if one of this id is open."""
         if self.open_one(workflow_id) is not None:
             return None
+        input = input if parent or continued else self.coded(input)
         run_id = f"{len(self.all) + 1:08x}-0000-4000-8000-{self.server.troubles.dice.getrandbits(48):012x}"
         queue = queue or (parent[0].queue if parent else self.server.settings.queues[0])
         run = Run(self.server, workflow_id, run_id, kind, queue, parent, input, continued, carried)
@@ -33,11 +38,17 @@ class Runs:
         runs, run_id = self.by_id.get(execution["workflowId"], []), execution.get("runId")
         return next((run for run in reversed(runs) if run_id in (None, run.run_id)), None)
 
+    def coded(self, input):
+        """Returns payloads as a client with a codec sends them, if it is one."""
+        if not input or not self.server.troubles.happens("metadata"):
+            return input
+        return {"payloads": [{**one, "metadata": {**one.get("metadata", {}), **OF_CODEC}} for one in input.get("payloads", [])]}
+
     # What comes to a run.
 
     def signal(self, run, name, input=None):
         if run.closed is None:
-            run.come_in("WorkflowExecutionSignaled", left_out({"signalName": name, "input": input}))
+            run.come_in("WorkflowExecutionSignaled", left_out({"signalName": name, "input": self.coded(input)}))
 
     def request_cancel(self, run):
         if run.closed is None and not run.is_canceled:

@@ -44,6 +44,7 @@ def main():
     workflows = Served(random.Random(asked.seed), Samples.kinds + Orders.kinds, {"all": None}, ())
     settings = Settings(queues=asked.task_queues, has_policies=asked.policies)
     server = Server(settings, troubles, World(troubles, workflows, 0, 0, True))
+    server.queries.follow_tasks = True
     calls = Calls(server, is_open=True)
     calls.listen(asked.port)
     signal.signal(signal.SIGTERM, stop)

@@ -20,7 +20,7 @@ from tasks import WorkflowTasks
 
 # How many seconds a worker that is processing something is waited for before the clock goes on, and how many if only a
 # poll is missing.
-PATIENCE, SHORT_PATIENCE = 1.0, 0.02
+PATIENCE, SHORT_PATIENCE = 1.0, 0.005
 # The codes with which an answer fails for good, since nobody retries it.
 FINAL_CODES = (2, 8, 10, 13)
 # The calls that are not answers to tasks; no worker counts their refusals.
@@ -33,6 +33,8 @@ class Server:
     def __init__(self, settings, troubles, world):
         self.settings, self.troubles, self.world = settings, troubles, world
         self.peers, self.final_codes = [], FINAL_CODES
+        # By how many milliseconds the clock jumps next.
+        self.jump_by = 0
         self.clock, self.findings, self.tokens, self.in_hand = Clock(), Findings(), Tokens(), InHand()
         self.polls = Polls(troubles.dice)
         self.queues, self.polling = Queues(self.polls), Polling(self)
@@ -62,6 +64,9 @@ class Server:
     def go_on(self, idle):
         """Lets time go on if all wait, or if nothing came for this many seconds; returns whether all wait. What is
         being processed for longer is no longer waited for: the worker withholds its answer, or is stuck."""
+        if self.jump_by:
+            jump_by, self.jump_by = self.jump_by, 0
+            self.clock.run_to(self.clock.now + jump_by)
         if idle > PATIENCE:
             self.in_hand.clear()
         all_wait = self.all_wait()

@@ -5,7 +5,7 @@ from history import left_out, time_text
 from peers import UNAVAILABLE, Given
 from queues import Offer
 
-TASK_TIMEOUT = 10_000
+TASK_TIMEOUT, HOUR = 10_000, 3_600_000
 
 
 def is_waiting(run, task, name):
@@ -19,6 +19,8 @@ class WorkflowTasks:
     def __init__(self, server):
         self.server, self.troubles, self.clock = server, server.troubles, server.clock
         self.counts, self.given = server.findings.counts, {}
+        # The sticky queues that their workers have given up.
+        self.given_up = set()
 
     # Queues.
 
@@ -49,6 +51,7 @@ class WorkflowTasks:
         if name != peer.sticky or name in [other.sticky for other in self.server.peers if other is not peer]:
             self.server.findings.blame(peer, f"the sticky queue {name} is given up")
         peer.counts["farewells"] += 1
+        self.given_up.add(name)
         for offer in self.server.queues.take_all((False, name)):
             offer.leave()
         return {}
@@ -73,8 +76,7 @@ class WorkflowTasks:
         is_partial = task.queue != run.queue
         beyond = run.start_task(self.server.tokens.new("task"), poll.peer.identity)
         events = run.events[run.before if is_partial else 0 :] + beyond
-        if self.troubles.happens("queries"):
-            task.queries = self.server.queries.beside(run)
+        task.queries = self.server.queries.of_task(run)
         self.clock.at(TASK_TIMEOUT, lambda: self.time_out(run, task))
         self.counts["given"] += 1
         if self.troubles.happens("lost"):
@@ -98,6 +100,8 @@ class WorkflowTasks:
             self.time_out(run, task)
         elif self.troubles.happens("during"):
             self.server.world.disturb(run)
+        elif self.troubles.happens("jumps"):
+            self.server.jump_by = self.troubles.dice.randrange(HOUR)
 
     def hand_to(self, poll, run, events, is_partial):
         peer, task = poll.peer, run.task

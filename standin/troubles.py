@@ -6,10 +6,12 @@ import random
 KINDS = {
     "twice": (0.06, "a workflow task is given to two polls"),
     "timeouts": (0.05, "a workflow task times out while it is in hand"),
+    "jumps": (0.002, "the clock jumps by up to an hour, over all that is planned, while a task is in hand"),
     "sticky": (0.10, "a sticky queue is dropped without an event, or nobody takes a task from it in time"),
     "pages": (0.40, "a history comes in pages, some of them empty"),
     "empty": (0.05, "a poll gets no task"),
     "codes": (0.01, "a poll is refused for now, by one of the codes of an outage"),
+    "outage": (0.0002, "for a minute of the clock each poll is refused, by the codes of an outage"),
     "cancelled": (0.01, "a server or proxy ends the open polls of a process by code 1, in the middle of work"),
     "calls": (0.005, "an answer or the call for a page fails for good, taken or not"),
     "lost": (0.03, "an answer is taken and its response lost, or the result of a poll is lost"),
@@ -22,6 +24,7 @@ KINDS = {
     "beaten": (0.40, "a signal or a cancel comes as an activity beats"),
     "late": (0.30, "the event of an activity's start is written at once, and not only with that of its end"),
     "speculative": (0.50, "an update gives a run a task whose events are not written"),
+    "metadata": (0.30, "what comes to a run has metadata of a codec, which a worker has to keep (not in `all`)"),
     "strangers": (0.03, "a run of a type that the workers have no code for"),
     "outside": (0.10, "a run is terminated, times out or is asked to be canceled"),
     "busy": (0.03, "an answer or a call for a page gets code 8 and is not taken, so that it is tried again (gRPC alone)"),
@@ -29,8 +32,8 @@ KINDS = {
     "dead": (0.01, "a second in which a connection goes dead: nothing goes through, and nobody closes it (gRPC alone)"),
     "away": (0.05, "a second after which the server is away for some (gRPC alone)"),
 }
-# What a bridge never does.
-NOT_IN_ALL = ("open",)
+# What a bridge never does, and what this host does not keep yet.
+NOT_IN_ALL = ("open", "metadata")
 
 
 class Troubles:

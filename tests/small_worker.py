@@ -7,7 +7,8 @@ standin/courses.py, so it shows that the stand-in works, before there is a worke
 
 Its options are those of `work` that tests/loops.py gives. `--wrong KIND` makes a mistake now and then, which the stand-in
 has to find (tests/stand_in.py): a state that the run is not in, commands without the first one, a query without an answer
-(`silent`), a retry `policy` that no server takes, a beat by the token of another task (`beat`) or of none (`token`), and one that hears of a cancel and goes on (`taken`)."""
+(`silent`), payloads without a codec's `metadata`, a retry `policy` that no server takes, a beat by the token of another task
+(`beat`) or of none (`token`), and one that hears of a cancel and goes on (`taken`)."""
 
 import argparse
 import base64
@@ -45,12 +46,8 @@ def begin(kind, payloads):
     raise Unknown
 
 
-def payload(content, encoding=PLAIN):
-    return {"data": base64.b64encode(content).decode(), "metadata": {"encoding": encoding}}
-
-
-def listed(payloads):
-    return {"payloads": [payload(one, one.encoding) for one in payloads]}
+def payload(content, metadata=None):
+    return {"data": base64.b64encode(content).decode(), "metadata": {"encoding": PLAIN} if metadata is None else metadata}
 
 
 def failure(message):
@@ -284,6 +281,12 @@ class Worker:
 
         self.call("RespondWorkflowTaskFailed", params, then)
 
+    def listed(self, payloads):
+        """Payloads as they came, with all their metadata."""
+        is_wrong = self.is_wrong("metadata")
+        kept = [{name: value for name, value in one.metadata.items() if name == "encoding" or not is_wrong} for one in payloads]
+        return {"payloads": [payload(*one) for one in zip(payloads, kept)]}
+
     def policy(self):
         policy = {"maximumAttempts": self.options.activity_attempts}
         return {"initialInterval": "60s", "maximumInterval": "10s"} if self.is_wrong("policy") else policy
@@ -295,26 +298,26 @@ class Worker:
         activity_queue = {"name": "till" if self.options.policies else self.options.task_queue}
         kinds = {
             "StartActivity": lambda: ("SCHEDULE_ACTIVITY_TASK", {
-                "activityId": words[0], "activityType": {"name": words[1]}, "input": listed(words[2]), "retryPolicy": self.policy(),
+                "activityId": words[0], "activityType": {"name": words[1]}, "input": self.listed(words[2]), "retryPolicy": self.policy(),
                 "startToCloseTimeout": f"{self.options.activity_timeout}s", "taskQueue": activity_queue}),
             "CancelActivity": lambda: ("REQUEST_CANCEL_ACTIVITY_TASK", {"scheduledEventId": str(words[0])}),
             "StartTimer": lambda: ("START_TIMER", {"timerId": words[0], "startToFireTimeout": words[1]}),
             "CancelTimer": lambda: ("CANCEL_TIMER", {"timerId": words[0]}),
             "StartChild": lambda: ("START_CHILD_WORKFLOW_EXECUTION", {
-                "workflowId": words[0], "workflowType": {"name": words[1]}, "input": listed(words[2]), "taskQueue": queue,
+                "workflowId": words[0], "workflowType": {"name": words[1]}, "input": self.listed(words[2]), "taskQueue": queue,
                 "namespace": self.options.namespace}),
             "CancelChild": lambda: ("REQUEST_CANCEL_EXTERNAL_WORKFLOW_EXECUTION", {
                 "childWorkflowOnly": True, "namespace": self.options.namespace, "workflowId": words[0]}),
             "SignalExternal": lambda: ("SIGNAL_EXTERNAL_WORKFLOW_EXECUTION", {
-                "execution": {"workflowId": words[0]}, "signalName": words[1], "input": listed(words[2]),
+                "execution": {"workflowId": words[0]}, "signalName": words[1], "input": self.listed(words[2]),
                 "namespace": self.options.namespace}),
             "Marker": lambda: ("RECORD_MARKER", {"markerName": "Version", "details": {
                 "change-id": mark(words[0]), "version": mark(words[1])}}),
-            "Complete": lambda: ("COMPLETE_WORKFLOW_EXECUTION", {"result": listed(words[0])}),
+            "Complete": lambda: ("COMPLETE_WORKFLOW_EXECUTION", {"result": self.listed(words[0])}),
             "Fail": lambda: ("FAIL_WORKFLOW_EXECUTION", {"failure": failure(words[0])}),
             "Cancel": lambda: ("CANCEL_WORKFLOW_EXECUTION", {}),
             "ContinueAsNew": lambda: ("CONTINUE_AS_NEW_WORKFLOW_EXECUTION", {
-                "workflowType": {"name": words[0]}, "input": listed(words[1]), "taskQueue": queue, **carried(events)}),
+                "workflowType": {"name": words[0]}, "input": self.listed(words[1]), "taskQueue": queue, **carried(events)}),
         }
         name, attributes = kinds[kind]()
         parts = [word.capitalize() for word in name.split("_")]
