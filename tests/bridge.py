@@ -5,7 +5,6 @@ bridges of its own on 127.0.0.1. What is wrong is printed; the last line is `N t
 Python's grpcio or protobuf is not there. Words after its name are names of tries, all where there is none; `--long` tries those too
 that take a minute; `--bridge FILE` tries another bridge."""
 
-import argparse
 import base64
 import json
 import os
@@ -17,85 +16,31 @@ import sys
 import tempfile
 import threading
 import time
-import urllib.error
-import urllib.request
 from collections import Counter
 from concurrent.futures import ThreadPoolExecutor
 from pathlib import Path
 
-SYSTEM = "/usr/bin/python3"  # Debian's packages python3-grpcio and python3-protobuf are for this one.
-TOP = Path(__file__).resolve().parent.parent
-sys.path.insert(0, str(TOP / "standin"))
-sys.dont_write_bytecode = True
-os.environ.setdefault("GRPC_VERBOSITY", "NONE")
-try:
-    import grpc
-    from google.protobuf import json_format
-except ImportError as missing:
-    if sys.executable != SYSTEM and os.access(SYSTEM, os.X_OK):
-        os.execv(SYSTEM, [SYSTEM, *sys.argv])
-    print(f"skipped: {missing}, and the bridge needs grpcio and protobuf")
-    sys.exit(0)
+import support
+from support import ACTIVITY, ANSWER, LIMIT_SECONDS, PAGE, TASK, TOP, Bridge, Tries
+from support import base64_of, free_port, has, outcome, page_of, same, soon
 
-from definitions import CLASSES, SERVICE
+os.environ.setdefault("GRPC_VERBOSITY", "NONE")
+support.take_packages("the bridge needs")
+
+import grpc  # noqa: E402
+from google.protobuf import json_format  # noqa: E402
+
+from definitions import CLASSES, SERVICE  # noqa: E402
+from forwarder import Forwarder  # noqa: E402
+from plans import wait_for_caller  # noqa: E402
 
 try:
     import yaml
 except ImportError:
     yaml = None
 
-BRIDGE = TOP / "bridge/temporal_bridge.py"
-TRIMMED = TOP / "standin/trimmed"
-LIMIT_SECONDS = 30
-AT_ONCE = 4
 CODES = {code.value[0]: code for code in grpc.StatusCode}
 OPTIONS = [("grpc.max_send_message_length", -1), ("grpc.so_reuseport", 0)]
-# The worker: it hands on what it reads to a socket, and what comes from there to its output. A line `@read` lets one that
-# is `deaf` begin to read, `@end N` ends it.
-WORKER = """
-import os, socket, sys, threading
-line = socket.socket(socket.AF_UNIX)
-line.connect(sys.argv[1])
-def read():
-    for response in sys.stdin.buffer:
-        line.sendall(response)
-reader = threading.Thread(target=read, daemon=True)
-if sys.argv[2] != "deaf":
-    reader.start()
-for request in line.makefile("rb"):
-    if request.startswith(b"@read"):
-        reader.start()
-    elif request.startswith(b"@end"):
-        os._exit(int(request[5:]))
-    else:
-        sys.stdout.buffer.write(request)
-        sys.stdout.buffer.flush()
-os._exit(99)
-"""
-
-
-class Wrong(Exception):
-    """What is not as it should be."""
-
-
-def same(what, found, wanted):
-    if found != wanted:
-        raise Wrong(f"{what}: {found!r}, not {wanted!r}")
-
-
-def has(what, found, wanted):
-    if wanted not in found:
-        raise Wrong(f"{what}: {found!r}, without {wanted!r}")
-
-
-def soon(what, condition, within=10.0):
-    """Waits until the condition holds: after how many seconds it does."""
-    begun = time.monotonic()
-    while not condition():
-        if time.monotonic() - begun > within:
-            raise Wrong(f"not within {within} s: {what}")
-        time.sleep(0.01)
-    return time.monotonic() - begun
 
 
 class Server(grpc.GenericRpcHandler):
@@ -148,9 +93,7 @@ def refuse_by_identity(message, context, count):
 
 def hang(message, context, count):
     """A rule that gives no response."""
-    gone = threading.Event()
-    if context.add_callback(gone.set):
-        gone.wait(LIMIT_SECONDS)
+    wait_for_caller(context)
     return b""
 
 
@@ -162,96 +105,8 @@ def by_token(message, context, count):
     return b""
 
 
-class Bridge:
-    """A bridge, whose worker is talked to."""
-
-    def __init__(self, port, *options, worker="", words=(), command=None, env=None, path=TRIMMED):
-        self.room = tempfile.TemporaryDirectory()
-        self.line, at = socket.socket(socket.AF_UNIX), f"{self.room.name}/line"
-        self.line.bind(at)
-        self.line.listen()
-        self.talk = self.held = None
-        command = command or [sys.executable, "-c", WORKER, at, worker, *words]
-        environment = {name: value for name, value in os.environ.items() if not name.startswith("TEMPORAL_")}
-        environment.update(PYTHONPATH=str(path), PYTHONDONTWRITEBYTECODE="1", **(env or {}))
-        bridge = [sys.executable, str(BRIDGE), "--address", f"127.0.0.1:{port}", *options, "--", *command]
-        self.begun, self.said = time.monotonic(), tempfile.TemporaryFile()
-        self.child = subprocess.Popen(bridge, stdin=subprocess.DEVNULL, stderr=self.said, env=environment)
-
-    def __enter__(self):
-        return self
-
-    def __exit__(self, *_):
-        self.child.kill()
-        self.child.wait()
-        # The worker ends with its socket.
-        for one in (self.said, self.line, *filter(None, [self.held, self.talk])):
-            one.close()
-        self.room.cleanup()
-
-    def send(self, line):
-        """Lets the worker write a line."""
-        if self.talk is None:
-            self.line.settimeout(LIMIT_SECONDS)
-            self.talk, _ = self.line.accept()
-            self.talk.settimeout(LIMIT_SECONDS)
-            self.held = self.talk.makefile("rb")
-        self.talk.sendall((line if isinstance(line, bytes) else line.encode()) + b"\n")
-
-    def ask(self, number, method, params):
-        self.send(json.dumps({"id": number, "jsonrpc": "2.0", "method": method, "params": params}))
-
-    def next(self):
-        """The next line that the worker has read."""
-        try:
-            line = self.held.readline()
-        except socket.timeout:
-            raise Wrong("no response comes")
-        if not line:
-            raise Wrong("the worker has ended")
-        return json.loads(line)
-
-    def all(self, count):
-        """The next responses, by their numbers."""
-        return {response.get("id"): response for response in (self.next() for _ in range(count))}
-
-    def answered(self, method, params):
-        """What comes of one request: the result, or the code and the text."""
-        self.ask(1, method, params)
-        return outcome(self.next())
-
-    def end(self, status=0, within=20.0):
-        """Waits for the end, and answers what was said."""
-        try:
-            self.child.wait(within)
-        except subprocess.TimeoutExpired:
-            raise Wrong(f"it does not end within {within} s")
-        self.said.seek(0)
-        said = self.said.read().decode(errors="replace")
-        if self.child.returncode != status:
-            raise Wrong(f"status {self.child.returncode}, not {status}: {said!r}")
-        if "Traceback" in said:
-            raise Wrong(said)
-        return said
-
-    def done(self):
-        """Lets the worker end, of which nothing is said."""
-        self.send("@end 0")
-        same("said", self.end(), "")
-
-
-def outcome(response):
-    error = response.get("error")
-    return response["result"] if error is None else (error["code"], error["message"])
-
-
 POLL = {"namespace": "default", "taskQueue": {"name": "q"}, "identity": "me"}
-TASK, ANSWER, PAGE = "PollWorkflowTaskQueue", "RespondWorkflowTaskCompleted", "GetWorkflowExecutionHistory"
-POLL_ACTIVITY, END = "PollActivityTaskQueue", "RespondActivityTask"
-
-
-def base64_of(text):
-    return base64.b64encode(text.encode()).decode()
+END = "RespondActivityTask"
 
 
 def answer_to(token):
@@ -269,6 +124,20 @@ def poll_with_a_task():
     """The task of a poll comes as the JSON form of its message."""
     with Server({TASK: lambda *_: response_of(task_token=b"token", attempt=1)}) as server, Bridge(server.port) as bridge:
         same("task", bridge.answered(TASK, POLL), {"taskToken": "dG9rZW4=", "attempt": 1})
+        bridge.done()
+
+
+def fields_that_are_not_known():
+    """Fields of a response that the package does not know, as those of a newer server, are passed over."""
+    # Of the types varint and bytes, with the number 999.
+    more = bytes([0xB8, 0x3E, 0x07]) + bytes([0xBA, 0x3E, 0x02]) + b"ok"
+    event = CLASSES["HistoryEvent"](event_id=1, event_type=1).SerializeToString() + more
+    history = bytes([0x0A, len(event)]) + event + more
+    task = response_of(task_token=b"token") + bytes([0x42, len(history)]) + history + more
+    with Server({TASK: lambda *_: task, ANSWER: lambda *_: more}) as server, Bridge(server.port) as bridge:
+        wanted = {"eventId": "1", "eventType": "EVENT_TYPE_WORKFLOW_EXECUTION_STARTED"}
+        same("task", bridge.answered(TASK, POLL), {"taskToken": "dG9rZW4=", "history": {"events": [wanted]}})
+        same("outcome", bridge.answered(ANSWER, answer_to("token")), {})
         bridge.done()
 
 
@@ -417,8 +286,8 @@ def poll_with_an_activity():
         "start_to_close_timeout": {"nanos": 500_000_000},
         "retry_policy": policy,
     }
-    task = CLASSES[POLL_ACTIVITY + "Response"](**made).SerializeToString()
-    with Server({POLL_ACTIVITY: lambda *_: task}) as server, Bridge(server.port) as bridge:
+    task = CLASSES[ACTIVITY + "Response"](**made).SerializeToString()
+    with Server({ACTIVITY: lambda *_: task}) as server, Bridge(server.port) as bridge:
         wanted = {
             "taskToken": "dG9rZW4=",
             "scheduledTime": "1970-01-01T00:01:00Z",
@@ -427,7 +296,7 @@ def poll_with_an_activity():
             "startToCloseTimeout": "0.500s",
             "retryPolicy": {"initialInterval": "1s", "backoffCoefficient": 2.0},
         }
-        same("task", bridge.answered(POLL_ACTIVITY, POLL), wanted)
+        same("task", bridge.answered(ACTIVITY, POLL), wanted)
         bridge.done()
 
 
@@ -564,15 +433,15 @@ def long_answer_of_an_activity():
 
     def give(*_):
         token = f"token {time.monotonic()}".encode()
-        return CLASSES[POLL_ACTIVITY + "Response"](task_token=token, **members, **next(tasks)).SerializeToString()
+        return CLASSES[ACTIVITY + "Response"](task_token=token, **members, **next(tasks)).SerializeToString()
 
     def end(message, context, _):
         if message.task_token == tokens[1] or time.monotonic() - begun < 70:
             context.abort(CODES[14], "no")
         return b""
 
-    with Server({POLL_ACTIVITY: give, END + "Completed": end}) as server, Bridge(server.port) as bridge:
-        found = [bridge.answered(POLL_ACTIVITY, POLL)["taskToken"] for _ in range(2)]
+    with Server({ACTIVITY: give, END + "Completed": end}) as server, Bridge(server.port) as bridge:
+        found = [bridge.answered(ACTIVITY, POLL)["taskToken"] for _ in range(2)]
         tokens = [base64.b64decode(token) for token in found]
         bridge.talk.settimeout(90)
         for number, token in enumerate(found):
@@ -587,9 +456,9 @@ def long_answer_of_an_activity():
 
 def answer_of_an_activity_at_a_shutdown():
     """After SIGTERM the result of an activity is tried for a minute, and not until its timeout."""
-    task = CLASSES[POLL_ACTIVITY + "Response"](task_token=b"token", start_to_close_timeout={"seconds": 9_000}).SerializeToString()
-    with Server({POLL_ACTIVITY: lambda *_: task, END + "Completed": refuse(14, "no")}) as server, Bridge(server.port) as bridge:
-        token = bridge.answered(POLL_ACTIVITY, POLL)["taskToken"]
+    task = CLASSES[ACTIVITY + "Response"](task_token=b"token", start_to_close_timeout={"seconds": 9_000}).SerializeToString()
+    with Server({ACTIVITY: lambda *_: task, END + "Completed": refuse(14, "no")}) as server, Bridge(server.port) as bridge:
+        token = bridge.answered(ACTIVITY, POLL)["taskToken"]
         bridge.ask(1, END + "Completed", {"taskToken": token})
         bridge.child.terminate()
         bridge.talk.settimeout(90)
@@ -727,12 +596,6 @@ def words_of_the_command():
 # Connections.
 
 
-def free_port():
-    with socket.socket() as one:
-        one.bind(("127.0.0.1", 0))
-        return one.getsockname()[1]
-
-
 def no_server():
     """Without --wait, status 2 at once; with it, after so long."""
     for options, least, most in (([], 0, 10), (["--wait", "2"], 2, 15)):
@@ -780,34 +643,6 @@ def server_away_and_back():
             bridge.end()
 
 
-class Forwarder:
-    """A connection between, that forwards all until it is cut: then all goes nowhere, and nobody is told."""
-
-    def __init__(self, port):
-        self.to, self.is_cut, self.listener = port, False, socket.create_server(("127.0.0.1", 0))
-        self.port = self.listener.getsockname()[1]
-        threading.Thread(target=self.accept, daemon=True).start()
-
-    def accept(self):
-        while True:
-            near, _ = self.listener.accept()
-            far = None if self.is_cut else socket.create_connection(("127.0.0.1", self.to))
-            for one, other in ((near, far), (far, near)):
-                if one is not None:
-                    threading.Thread(target=self.forward, args=(one, other), daemon=True).start()
-
-    def forward(self, one, other):
-        while True:
-            try:
-                some = one.recv(65536)
-                if not self.is_cut:
-                    other.sendall(some)
-            except OSError:
-                return
-            if not some:
-                return
-
-
 def dead_connection():
     """A connection that is dead without a word is found within a minute: a poll on it is not an empty one."""
     with Server({TASK: hang}) as server:
@@ -815,7 +650,8 @@ def dead_connection():
         with Bridge(between.port) as bridge:
             bridge.ask(1, TASK, POLL)
             soon("the poll is open", lambda: server.calls[TASK] == 1)
-            between.is_cut, begun = True, time.monotonic()
+            between.die()
+            begun = time.monotonic()
             bridge.talk.settimeout(75)
             same("code", outcome(bridge.next())[0], 14)
             same("within 60 s", time.monotonic() - begun < 60, True)
@@ -975,17 +811,6 @@ def certificates_that_change():
 # Pages.
 
 
-def page_of(port, path):
-    """The status and the text of a page."""
-    try:
-        with urllib.request.urlopen(f"http://127.0.0.1:{port}{path}", timeout=5) as found:
-            return found.status, found.read().decode()
-    except urllib.error.HTTPError as why:
-        return why.code, why.read().decode()
-    except OSError as why:
-        return 0, str(why)
-
-
 def value_of(text, name, **labels):
     """The value of a sample of a page, whose labels have to be these."""
     found = [line.rpartition(" ") for line in text.splitlines() if line.startswith(f"{name}{{")]
@@ -995,14 +820,14 @@ def value_of(text, name, **labels):
 
 def page_of_metrics():
     """The metrics are those of the calls, with their codes, and those of the worker's own file."""
-    rules = {TASK: refuse_by_identity, PAGE: refuse(9), POLL_ACTIVITY: refuse(4)}
+    rules = {TASK: refuse_by_identity, PAGE: refuse(9), ACTIVITY: refuse(4)}
     with tempfile.TemporaryDirectory() as path, Server(rules) as server:
         port, own = free_port(), Path(path, "own.prom")
         with Bridge(server.port, "--listen", f"127.0.0.1:{port}", "--worker-metrics", str(own)) as bridge:
             bridge.answered(ANSWER, answer_to("token"))
             for code in (14, 8, 14):
                 bridge.answered(TASK, {**POLL, "identity": str(code)})
-            bridge.answered(POLL_ACTIVITY, POLL)
+            bridge.answered(ACTIVITY, POLL)
             bridge.answered(PAGE, {"namespace": 'a"b', "execution": {}})
             status, text = page_of(port, "/metrics")
             same("status", status, 200)
@@ -1014,12 +839,12 @@ def page_of_metrics():
                 (3, "temporal_long_request_total", {"namespace": "default", "operation": TASK}),
                 (2, "temporal_long_request_failure_total", {"namespace": "default", "operation": TASK, "status_code": "UNAVAILABLE"}),
                 (1, "temporal_long_request_failure_total", {"namespace": "default", "operation": TASK, "status_code": "RESOURCE_EXHAUSTED"}),
-                (1, "temporal_long_request_total", {"namespace": "default", "operation": POLL_ACTIVITY}),
+                (1, "temporal_long_request_total", {"namespace": "default", "operation": ACTIVITY}),
                 (3, "temporal_long_request_latency_seconds_bucket", {"namespace": "default", "operation": TASK, "le": "+Inf"}),
                 (3, "temporal_long_request_latency_seconds_count", {"namespace": "default", "operation": TASK}),
             ]
             same("values", [value_of(text, name, **labels) for _, name, labels in rows], [value for value, _, _ in rows])
-            same("an empty poll is no failure", f'failure_total{{namespace="default",operation="{POLL_ACTIVITY}"' in text, False)
+            same("an empty poll is no failure", f'failure_total{{namespace="default",operation="{ACTIVITY}"' in text, False)
             kinds = [line.split()[2] for line in text.splitlines() if line.startswith("# TYPE ")]
             same("each family once", len(kinds), len(set(kinds)))
             own.write_text("wfhost_polls_total 5\n")
@@ -1070,7 +895,7 @@ def page_of_tasks():
 
     sticky = {"name": "me:q", "normalName": "q", "kind": "TASK_QUEUE_KIND_STICKY"}
     polls = [(TASK, one, {"name": "q"}) for one in ("late", "query", "nobody", "14", "4")] + [(TASK, "early", sticky)]
-    polls += [(POLL_ACTIVITY, one, {"name": "q"}) for one in ("again", "nobody", "nobody")]
+    polls += [(ACTIVITY, one, {"name": "q"}) for one in ("again", "nobody", "nobody")]
     ends = [
         ("late", "COMPLETE_WORKFLOW_EXECUTION", {"name": "q"}),
         ("early", "COMPLETE_WORKFLOW_EXECUTION", sticky),
@@ -1107,7 +932,7 @@ def page_of_tasks():
         (1, "workflow_canceled_total", of_run),
         (1, "workflow_continue_as_new_total", of_run),
     ]
-    rules = {TASK: task(TASK), POLL_ACTIVITY: task(POLL_ACTIVITY), ANSWER: answer}
+    rules = {TASK: task(TASK), ACTIVITY: task(ACTIVITY), ANSWER: answer}
     with Server(rules) as server:
         port = free_port()
         with Bridge(server.port, "--listen", f"127.0.0.1:{port}") as bridge:
@@ -1181,7 +1006,7 @@ def files_of_a_deployment():
     folder = TOP / "examples/deploy"
     for file in folder.glob("*.yaml") if yaml else ():
         same(f"documents in {file.name}", [type(one) for one in yaml.safe_load_all(file.read_text())], [dict])
-    told = subprocess.run([sys.executable, str(BRIDGE), "--help"], capture_output=True, text=True).stdout
+    told = subprocess.run([sys.executable, str(support.BRIDGE), "--help"], capture_output=True, text=True).stdout
     known, found = set(re.findall(r"^  (--[a-z-]+)", told, re.MULTILINE)), set()
     for name in ("kubernetes.yaml", "orders-worker.service"):
         words = re.sub(r"#.*", "", (folder / name).read_text()).replace('"', "").split()
@@ -1189,7 +1014,7 @@ def files_of_a_deployment():
         found |= {word for word in words if word.startswith("--")}
     same("options that are none", sorted(found - known), [])
     has("options", found, "--listen")
-    sources = [*BRIDGE.parent.glob("*counts.py"), *TOP.glob("crates/wh_metrics/src/*.rt")]
+    sources = [*support.BRIDGE.parent.glob("*counts.py"), *TOP.glob("crates/wh_metrics/src/*.rt")]
     sources = "".join(file.read_text() for file in sources)
     metrics = set(re.findall(r"\b(?:temporal|wfhost)_\w+", (folder / "alerts.yaml").read_text()))
     families = {re.sub(r"_(bucket|(failure_)?total)$", "", name) if name.startswith("temporal") else name for name in metrics}
@@ -1295,7 +1120,7 @@ def packages_that_are_missing():
         (["--help"], 0, "stdout", "--tls-server-name NAME"),
     ]
     for words, status, stream, text in rows:
-        ran = subprocess.run([sys.executable, "-S", "-E", str(BRIDGE), *words], capture_output=True, text=True)
+        ran = subprocess.run([sys.executable, "-S", "-E", str(support.BRIDGE), *words], capture_output=True, text=True)
         same(f"status of {words}", ran.returncode, status)
         has(f"said for {words}", getattr(ran, stream), text)
 
@@ -1307,6 +1132,7 @@ TRIES = [
     response_too_large,
     poll_with_a_task,
     poll_with_an_activity,
+    fields_that_are_not_known,
     poll_cancelled_by_the_server,
     polls_that_fail,
     polls_refused_in_passing,
@@ -1351,33 +1177,12 @@ TRIES = [
 LONG = [dead_connection, polls_that_hang, long_answer_of_an_activity, answer_of_an_activity_at_a_shutdown]
 
 
-def fault_of(one):
-    """What is wrong in a try; nothing where all is as it should be."""
-    try:
-        one()
-    except Wrong as why:
-        return str(why)
-    except Exception as why:
-        return f"{type(why).__name__}: {why}"
-    return ""
-
-
 def main():
-    global BRIDGE
-    parser = argparse.ArgumentParser(description=__doc__, formatter_class=argparse.RawDescriptionHelpFormatter)
-    parser.add_argument("--bridge", type=Path, default=BRIDGE, help="another bridge, a file")
-    parser.add_argument("--long", action="store_true", help="also those that take a minute")
-    parser.add_argument("names", nargs="*", metavar="NAME", choices=[[], *(one.__name__ for one in TRIES + LONG)])
-    asked = parser.parse_args()
-    BRIDGE, wrong = asked.bridge, 0
-    tries = [one for one in TRIES + LONG if one.__name__ in asked.names] or TRIES + LONG * asked.long
-    with ThreadPoolExecutor(AT_ONCE) as threads:
-        for one, fault in zip(tries, threads.map(fault_of, tries)):
-            if fault:
-                wrong += 1
-                print(f"{one.__name__}: {fault}", flush=True)
-    print(f"{len(tries)} tried, {wrong} wrong")
-    return 1 if wrong else 0
+    tries = Tries(__doc__, TRIES, LONG)
+    tries.parser.add_argument("--bridge", type=Path, default=support.BRIDGE, help="another bridge, a file")
+    asked = tries.parser.parse_args()
+    support.BRIDGE = asked.bridge
+    return tries.run(asked)
 
 
 if __name__ == "__main__":

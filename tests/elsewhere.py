@@ -10,20 +10,14 @@ Each step of each run is compared: which activity, on which queue, how it ended,
 
 import argparse
 import base64
-import importlib
-import os
 import subprocess
 import sys
 import tempfile
 import time
-import uuid
 from pathlib import Path
 
-SYSTEM = "/usr/bin/python3"  # Debian's package python3-grpcio is for this one.
-TOP = Path(__file__).resolve().parent.parent
-sys.dont_write_bytecode = True
-TRIMMED = TOP / "standin/trimmed"
-SERVICE = "/temporal.api.workflowservice.v1.WorkflowService/"
+from support import PROGRAM, TOP, Client, environment_of, payloads, take_packages, use_trimmed
+
 SECONDS = 60
 TABLE = TOP / "examples/tables/trip.json"
 POLICIES = """
@@ -42,32 +36,6 @@ TRIALS = {
     "no car": ("no-cars", [*BOOKED, "BookCar no-cars Failed", "CancelHotel bookings Completed", "CancelFlight bookings Completed"],
                "Failed", "the trip was called off"),
 }
-
-
-class Client:
-    """Starts runs and reads their histories."""
-
-    def __init__(self, address):
-        import grpc
-        from google.protobuf import json_format
-        from temporalio.api.workflowservice import v1 as messages
-
-        self.channel, self.json, self.messages = grpc.insecure_channel(address), json_format, messages
-
-    def call(self, method, **params):
-        request = getattr(self.messages, method + "Request")(namespace="default", **params)
-        response = getattr(self.messages, method + "Response")
-        ask = self.channel.unary_unary(SERVICE + method, type(request).SerializeToString, response.FromString)
-        return ask(request, timeout=10, wait_for_ready=True)
-
-    def start(self, workflow_id, values):
-        payloads = [{"metadata": {"encoding": b"json/plain"}, "data": value} for value in values]
-        self.call("StartWorkflowExecution", workflow_id=workflow_id, workflow_type={"name": "Table:trip"}, task_queue={"name": "trips"},
-                  input={"payloads": payloads}, identity="elsewhere", request_id=str(uuid.uuid4()))
-
-    def events(self, workflow_id):
-        found = self.call("GetWorkflowExecutionHistory", execution={"workflow_id": workflow_id})
-        return self.json.MessageToDict(found.history).get("events", [])
 
 
 def attributes_of(event):
@@ -95,7 +63,6 @@ class Room:
 
     def __init__(self, program, folder, cars):
         self.folder, self.started = folder, []
-        self.environment = {**os.environ, "PYTHONPATH": os.pathsep.join(filter(None, [str(TRIMMED), os.environ.get("PYTHONPATH")]))}
         self.said = open(Path(folder, "said.txt"), "w+b")
         queues = "trips,bookings,cars,no-cars"
         self.server = self.run("standin/serve.py", "--task-queues", queues, "--policies", stdout=subprocess.PIPE)
@@ -109,7 +76,7 @@ class Room:
 
     def run(self, script, *words, stdout=None):
         command = [sys.executable, str(TOP / script), *words]
-        child = subprocess.Popen(command, stdin=subprocess.PIPE, stdout=stdout or self.said, stderr=self.said, env=self.environment)
+        child = subprocess.Popen(command, stdin=subprocess.PIPE, stdout=stdout or self.said, stderr=self.said, env=environment_of())
         self.started.append(child)
         return child
 
@@ -132,10 +99,10 @@ def tried(program, name, trial):
         room = Room(program, folder, cars)
         try:
             client, until, events = Client(room.address), time.monotonic() + SECONDS, []
-            client.start("trip-1", [TABLE.read_bytes(), b'{"to": "Oslo"}'])
+            execution = client.start("Table:trip", "trip-1", "trips", payloads(TABLE.read_bytes(), {"to": "Oslo"}))
             while time.monotonic() < until and told(events)[1] is None:
                 time.sleep(0.1)
-                events = client.events("trip-1")
+                events = client.history(execution)
         finally:
             faults = room.end()
     found = told(events)
@@ -144,27 +111,12 @@ def tried(program, name, trial):
     return faults
 
 
-def lacking():
-    """Which package can't be imported, or None."""
-    for name in ("grpc", "google.protobuf"):
-        try:
-            importlib.import_module(name)
-        except ImportError as why:
-            return why
-    return None
-
-
 def main():
     parser = argparse.ArgumentParser(description=__doc__, formatter_class=argparse.RawDescriptionHelpFormatter)
-    parser.add_argument("--program", default=str(TOP / "crates/wfhost/out/wfhost"))
+    parser.add_argument("--program", default=str(PROGRAM))
     asked = parser.parse_args()
-    why = lacking()
-    if why and sys.executable != SYSTEM and os.access(SYSTEM, os.X_OK):
-        os.execv(SYSTEM, [SYSTEM, *sys.argv])
-    if why:
-        print(f"skipped: {why}, and workers in Python need grpcio and protobuf")
-        return 0
-    sys.path.insert(0, str(TRIMMED))
+    take_packages("workers in Python need")
+    use_trimmed()
     wrong = 0
     for name, trial in TRIALS.items():
         faults = tried(asked.program, name, trial)

@@ -8,6 +8,7 @@ stand-in has counted. Each loop prints a line; the last line is `N tried, M wron
     tests/loops.py --runs 2000 --orders --trouble all --kill
     tests/loops.py --runs 2000 --tables --trouble all --kill
     tests/loops.py --runs 200 --samples --trouble all --grpc
+    tests/loops.py --runs 30000 --mixed
 
 The loops of a seed are not the same twice, since the workers' threads are not. Whoever looks for the cause of a wrong one
 finds its histories and what its workers said in the folder that is named by --keep.
@@ -22,24 +23,21 @@ import subprocess
 import sys
 import tempfile
 import time
+from concurrent.futures import ThreadPoolExecutor
 from itertools import product
 from pathlib import Path
 
-TOP = Path(__file__).resolve().parent.parent
-sys.path.insert(0, str(TOP / "standin"))
-sys.dont_write_bytecode = True
+from support import BRIDGE, ORDERS, PROGRAM, take_packages
 
-from handlers import Till  # noqa: E402
-from peers import Settings  # noqa: E402
-from pipes import Pipes  # noqa: E402
-from server import Server  # noqa: E402
-from table_runs import Tables  # noqa: E402
-from troubles import KINDS, Troubles, names_of  # noqa: E402
-from workflows import STRANGE, Orders, Own, Samples  # noqa: E402
-from world import World  # noqa: E402
+from handlers import Till
+from peers import Settings
+from pipes import Pipes
+from server import Server
+from table_runs import Tables
+from troubles import KINDS, Troubles, names_of
+from workflows import STRANGE, Orders, Own, Samples
+from world import World
 
-PROGRAMS = {"samples": TOP / "crates/wfhost/out/wfhost", "orders": TOP / "crates/order_worker/out/order_worker"}
-BRIDGE = TOP / "bridge/temporal_bridge.py"
 # What the workers ask for, where activities are on a Task Queue of their own.
 POLICIES = """
 [activities]
@@ -48,7 +46,10 @@ start_to_close = 60
 heartbeat = 30
 retry = { maximum_attempts = 1 }
 """
-LIMIT_SECONDS = 600
+# How long a loop may take at least, and for each run.
+LIMIT_SECONDS, RUN_SECONDS = 600, 0.1
+# What --mixed asks for: queries of a run at most, the seconds between kills, and the runs of a part, of which some are at once.
+QUERIES, KILL_SECONDS, PART, AT_ONCE = 4, 10.0, 1_000, 12
 END_SECONDS = 30
 MOST_WRONG = 100
 REPORT = r"taken (\d+), completed (\d+), failed (\d+), in hand (\d+)"
@@ -203,6 +204,8 @@ class Loop:
         line = f"{self.title}: {len(self.server.runs.all)} runs, {counts['given']} tasks, {hits} hits, {misses} misses, "
         if counts["asked"] or counts["asked beside"]:
             line += f"{counts['asked']} queries, {counts['asked beside']} beside tasks with {counts['left out']} left out, "
+        if counts["dropped"]:
+            line += f"{counts['dropped']} discarded, "
         if counts["beats"]:
             line += f"{counts['beats']} beats with {counts['cancels heard']} cancels, {counts['activities canceled']} canceled, "
         line += f"{not_found} not found, {refused} refused, {self.killed} killed, {seconds:.1f} s"
@@ -222,10 +225,8 @@ def front(asked, server, troubles):
     """What stands between the server and the workers."""
     if not asked.grpc:
         return Pipes(server, troubles)
-    try:
-        from grpc_front import Front
-    except ImportError as missing:
-        sys.exit(f"{missing}: --grpc needs grpcio and protobuf, such as Debian's python3 has with python3-grpcio")
+    from grpc_front import Front
+
     return Front(server, asked.bridge, asked.away)
 
 
@@ -276,37 +277,85 @@ def options():
     parser.add_argument("--activity-workers", type=int, default=0, help="0: the stand-in serves the activities")
     parser.add_argument("--cache", type=numbers, default=[10], help="capacities of the cache, with commas")
     parser.add_argument("--trouble", type=names_of, default="all", help="none, or kinds with commas, where -KIND leaves one out: all, " + ", ".join(KINDS))
-    parser.add_argument("--till", type=str.split, nargs="?", const=[str(PROGRAMS["orders"])], help="with --tables: the activities are "
+    parser.add_argument("--till", type=str.split, nargs="?", const=[str(ORDERS)], help="with --tables: the activities are "
                         "on a Task Queue of their own, which policies name, and this program, otherwise order_worker, serves them and beats")
-    parser.add_argument("--queries", type=int, nargs="?", const=4, default=0, help="asks each run so many queries at most")
-    parser.add_argument("--kill", type=float, nargs="?", const=1.0, default=0, help="every so many seconds kills a worker or ends its input")
+    parser.add_argument("--queries", type=int, nargs="?", const=QUERIES, default=0, help="asks each run so many queries at most")
+    parser.add_argument("--kill", type=float, nargs="?", const=1.0, default=0, help="every so many seconds kills a worker or ends its input; "
+                        "with --grpc kills a bridge, or the worker behind it")
+    parser.add_argument("--mixed", action="store_true", help=f"for long loops: --tables --till --queries --kill {KILL_SECONDS:g} --processes 2 "
+                        f"--part {PART} --at-once {AT_ONCE}")
+    parser.add_argument("--part", type=int, default=0, help="a loop of more runs is done in parts of so many, each with a seed of its own")
+    parser.add_argument("--at-once", type=int, default=1, help="how many loops or parts are at work at once, each in a process of its own; "
+                        "most of their time goes to waits")
     parser.add_argument("--grpc", action="store_true", help="through the bridge, over gRPC")
     parser.add_argument("--bridge", default=BRIDGE, help="with --grpc, another bridge")
     parser.add_argument("--away", type=float, default=3, help="with --grpc, for how many seconds the server is away each time")
     parser.add_argument("--processes", type=int, default=1, help="worker processes on the one queue")
     parser.add_argument("--seeds", type=numbers, default=[1], help="seeds, with commas")
-    parser.add_argument("--limit", type=float, default=LIMIT_SECONDS, help="seconds that a loop may take")
+    parser.add_argument("--limit", type=float, help=f"seconds that a loop may take (otherwise {RUN_SECONDS:g} a run, and {LIMIT_SECONDS} at least)")
     parser.add_argument("--program", type=str.split, help="another program, as words")
     parser.add_argument("--more", type=str.split, default=[], help="more options of the worker, as words")
     parser.add_argument("--keep", help="a folder for the histories and what the workers said")
+    parser.add_argument("--is-part", action="store_true", help=argparse.SUPPRESS)
     add_options_of_kinds(parser)
     found = parser.parse_args()
+    if found.grpc:
+        take_packages("--grpc needs")
+    if found.mixed:
+        mix(found)
+    found.limit = found.limit or max(LIMIT_SECONDS, RUN_SECONDS * found.runs)
     if found.kinds and not found.program:
         parser.error("--kinds wants the program that has them: --program PROGRAM")
-    found.program = found.program or [str(PROGRAMS["orders" if found.orders else "samples"])]
+    found.program = found.program or [str(ORDERS if found.orders else PROGRAM)]
     if not shutil.which(found.program[0]):
         parser.error(f"{found.program[0]} is not built")
     return found
+
+
+def mix(asked):
+    """Sets what --mixed asks for, where nothing else is asked for."""
+    asked.tables, asked.till, asked.queries = True, asked.till or [str(ORDERS)], asked.queries or QUERIES
+    asked.kill, asked.processes = asked.kill or KILL_SECONDS, max(asked.processes, 2)
+    asked.part, asked.at_once = asked.part or PART, max(asked.at_once, AT_ONCE)
 
 
 def main():
     asked = options()
     if asked.keep:
         Path(asked.keep).mkdir(parents=True, exist_ok=True)
+    if asked.part and not asked.is_part:
+        return all_parts(asked)
     with tempfile.TemporaryDirectory() as folder:
         asked.policies = Path(folder, "policies.toml")
         asked.policies.write_text(POLICIES)
         return all_loops(asked)
+
+
+def parts_of(asked):
+    """The options of each part of each loop."""
+    for seed, workers, cache in product(asked.seeds, asked.workers, asked.cache):
+        for at, first in enumerate(range(0, asked.runs, asked.part)):
+            runs = min(asked.part, asked.runs - first)
+            keep = ["--keep", str(Path(asked.keep, f"{seed}-{workers}-{cache}-{at}"))] if asked.keep else []
+            yield ["--runs", runs, "--part", runs, "--seeds", seed + 1_000 * at, "--workers", workers, "--cache", cache, "--at-once", 1, *keep]
+
+
+def run_part(words):
+    """Runs a part in a process of its own: what it has printed."""
+    words = [sys.executable, *sys.argv, *map(str, words), "--is-part"]
+    return subprocess.run(words, stdout=subprocess.PIPE, text=True).stdout.splitlines()
+
+
+def all_parts(asked):
+    """Runs all loops in parts, some at once."""
+    begun, tried, wrong = time.monotonic(), 0, 0
+    with ThreadPoolExecutor(asked.at_once) as threads:
+        for lines in threads.map(run_part, parts_of(asked)):
+            tried, wrong = tried + 1, wrong + (lines[-1:] != ["1 tried, 0 wrong"])
+            print("\n".join(lines[:-1]), flush=True)
+    print(f"{asked.runs} runs in parts of {asked.part}, {asked.at_once} at once: {time.monotonic() - begun:.0f} s")
+    print(f"{tried} tried, {wrong} wrong")
+    return 1 if wrong else 0
 
 
 def all_loops(asked):

@@ -8,8 +8,10 @@
 
 It starts runs of the samples (and of orders, if --orders names the program that has them), signals some and requests the
 cancellation of some, kills the bridge and its worker meanwhile and starts them again, and waits until all runs are closed.
-It reads the pages of the bridge (--listen), and then tries the bridge alone, as its worker: a namespace that is not there, and
-the result of an activity while the way to the server is away for a quarter of a minute.
+It reads the pages of the bridge (--listen). Then it tries the bridge alone, as its worker: a namespace that is not there, a retry
+policy that no server takes, and the result of an activity while the way to the server is away for a quarter of a minute. And it
+tries the program behind a proxy that makes trouble: polls that are refused or late, responses that are lost, pages that are
+refused, events of unknown types, and connections that end.
 Then it fetches each history by GetWorkflowExecutionHistory, writes it to a file in the form of the Temporal CLI, and
 replays the folder with the program. The last line is `N runs, N closed, 0 wrong`, and the exit status is 1 if anything is
 wrong. Children, and runs that continue others as new, count as runs too. It uses task queues and workflow ids of its own,
@@ -25,32 +27,31 @@ import os
 import random
 import re
 import signal
-import socket
 import subprocess
 import sys
 import tempfile
+import threading
 import time
-import urllib.error
-import urllib.request
 import uuid
 from collections import Counter
 from pathlib import Path
 
-TOP = Path(__file__).resolve().parent.parent
-sys.path += [str(TOP / "tests"), str(TOP / "standin")]
-sys.dont_write_bytecode = True
-TRIMMED = TOP / "standin/trimmed"
-BRIDGE = TOP / "bridge/temporal_bridge.py"
-PROGRAM = TOP / "crates/wfhost/out/wfhost"
-STAND_IN = TOP / "standin/serve.py"
-SERVICE = "/temporal.api.workflowservice.v1.WorkflowService/"
-CALL_SECONDS, PAGE_EVENTS, END_SECONDS, REPLAY_SECONDS = 10, 100, 30, 600
+import support
+from support import ANSWER, CALL_SECONDS, NOT_FOUND, PAGE, PROGRAM, RESULT, STAND_IN, TASK, Client, Wrong, free_port, page_of, payloads
+
+from history import CARRIED_OVER
+from messages import attributes_name
+from processes import children_of, kill
+from workflows import OPENINGS
+
+END_SECONDS, REPLAY_SECONDS = 30, 600
 # How long the way to the server is away, and how long a poll of the bridge alone may take.
 AWAY_SECONDS, TASK_SECONDS = 15, 90
-NOT_FOUND, DENIED = 5, 7
-# Codes after which a call may do better a little later.
-PASSING = (2, 4, 8, 10, 14)
-RUNNING = 1
+INVALID, DEADLINE, DENIED, UNAUTHENTICATED = 3, 4, 7, 16
+# A retry policy that no server takes.
+BAD_POLICY = {"initialInterval": "60s", "maximumInterval": "10s", "maximumAttempts": 2}
+# What the stand-in says against what this trial itself does.
+OWN_FAULTS = ("retryPolicy is ", "one more answer to ", "EVENT_TYPE_999")
 SAMPLES = ("Nap", "Greet", "Branch", "Family", "Racer", "Caller", "Relay")
 # The signals and the cancels that some runs of a type get: how often, and which signal.
 SIGNALS = {"Family": (0.5, "stop"), "Order": (1.0, "cancel"), "Nap": (0.3, "noise"), "Relay": (0.3, "noise")}
@@ -59,123 +60,43 @@ CANCELS = {"Greet": 0.3}
 QUERIES = {"Order": ("status", ['"charging"', '"held"', '"shipping"', '"closed"']), "Racer": ("phase", ['"racing"', '"late"', '"done"'])}
 # The options that the bridge is given as they are, beside --tls.
 BRIDGE_OPTIONS = ("--tls-cert", "--tls-key", "--tls-ca", "--tls-server-name", "--api-key", "--api-key-file")
-OPENINGS = ("activityTaskScheduledEventAttributes", "startChildWorkflowExecutionInitiatedEventAttributes")
 CHILD = "childWorkflowExecutionStartedEventAttributes"
 STARTED, CONTINUED = "workflowExecutionStartedEventAttributes", "workflowExecutionContinuedAsNewEventAttributes"
-# What a run hands on to the one that continues it.
-CARRIED_OVER = ("memo", "retryPolicy", "searchAttributes")
+# The event of a signal, the number of a type that no package knows, and what a query gives of a type that no run knows.
+SIGNALED, UNKNOWN_TYPE, UNKNOWN_QUERY = 26, 999, "unknown query type weather; known: none"
+# The trouble that a proxy makes, in this order; and what is left out, and why.
+TROUBLES = ("refused_polls", "late_polls", "lost_responses", "refused_pages", "unknown_events", "busy_runs")
+LEFT_OUT = {"busy_runs": "the host does not answer the queries of a task with the task yet"}
+# Each channel has a connection of its own, and takes messages of any size.
+CHANNEL_OPTIONS = (("grpc.use_local_subchannel_pool", 1), ("grpc.max_receive_message_length", -1))
+# For how many seconds the proxy lets a poll wait; after how many milliseconds it ends a connection, and its calls.
+POLL_SECONDS = 2
+PROXY_OPTIONS = (("grpc.max_connection_age_ms", 10_000), ("grpc.max_connection_age_grace_ms", 2_000))
 
 
-class Wrong(Exception):
-    """Why the trial can't go on."""
+def channel_of(asked, address):
+    """A channel, with TLS where the bridge uses it too: where it or something of it is asked for, or a key is shown."""
+    import grpc
+
+    files = asked.tls_ca, asked.tls_key, asked.tls_cert
+    if not (asked.tls or any(files) or asked.tls_server_name or asked.api_key or asked.api_key_file):
+        return grpc.insecure_channel(address, CHANNEL_OPTIONS)
+    held = [Path(file).read_bytes() if file else None for file in files]
+    given = [("grpc.ssl_target_name_override", asked.tls_server_name)] if asked.tls_server_name else []
+    return grpc.secure_channel(address, grpc.ssl_channel_credentials(*held), [*CHANNEL_OPTIONS, *given])
 
 
-def payloads(*values):
-    """JSON values as payloads."""
-    return {"payloads": [{"metadata": {"encoding": b"json/plain"}, "data": json.dumps(value).encode()} for value in values]}
+def beside_of(asked):
+    """What goes beside each call."""
+    key = Path(asked.api_key_file).read_text() if asked.api_key_file else asked.api_key
+    return [("temporal-namespace", asked.namespace), *([("authorization", f"Bearer {key.strip()}")] if key else [])]
 
 
-class Client:
-    """The calls of a client of the server."""
-
-    def __init__(self, asked, address):
-        import grpc
-        from google.protobuf import json_format
-        from temporalio.api.workflowservice import v1 as messages
-
-        self.grpc, self.json, self.messages = grpc, json_format, messages
-        self.namespace, self.identity = asked.namespace, f"real_server-{os.getpid()}"
-        self.channel, self.beside = self.connect(asked, address), [("temporal-namespace", asked.namespace)]
-        key = Path(asked.api_key_file).read_text() if asked.api_key_file else asked.api_key
-        if key:
-            self.beside.append(("authorization", f"Bearer {key.strip()}"))
-
-    def connect(self, asked, address):
-        """A channel, with TLS where the bridge uses it too: where it or something of it is asked for, or a key is shown."""
-        files = asked.tls_ca, asked.tls_key, asked.tls_cert
-        if not (asked.tls or any(files) or asked.tls_server_name or asked.api_key or asked.api_key_file):
-            return self.grpc.insecure_channel(address)
-        held = [Path(file).read_bytes() if file else None for file in files]
-        name = asked.tls_server_name
-        given = [("grpc.ssl_target_name_override", name)] if name else []
-        return self.grpc.secure_channel(address, self.grpc.ssl_channel_credentials(*held), given)
-
-    def call(self, method, **params):
-        """Makes a call, and again while it may do better: its response, or none where there is no such run or namespace."""
-        request = getattr(self.messages, method + "Request")(namespace=self.namespace, **params)
-        response = getattr(self.messages, method + "Response")
-        ask = self.channel.unary_unary(SERVICE + method, type(request).SerializeToString, response.FromString)
-        until = time.monotonic() + CALL_SECONDS
-        while True:
-            try:
-                return ask(request, timeout=CALL_SECONDS, metadata=self.beside)
-            except self.grpc.RpcError as why:
-                code = why.code().value[0]
-                if code == NOT_FOUND:
-                    return None
-                if code not in PASSING or time.monotonic() > until:
-                    raise Wrong(f"{method}: {why.code().name}: {why.details()}") from why
-            time.sleep(0.2)
-
-    def memo(self):
-        """A memo of one value."""
-        memo = self.messages.StartWorkflowExecutionRequest().memo
-        memo.fields["team"].metadata["encoding"], memo.fields["team"].data = b"json/plain", b'"shop"'
-        return memo
-
-    def start(self, kind, workflow_id, queue, input):
-        """Starts a run with a memo and a retry policy, by which it is not tried again, and gives its execution."""
-        made = self.call(
-            "StartWorkflowExecution",
-            workflow_id=workflow_id,
-            workflow_type={"name": kind},
-            task_queue={"name": queue},
-            input=input,
-            identity=self.identity,
-            request_id=str(uuid.uuid4()),
-            memo=self.memo(),
-            retry_policy={"maximum_attempts": 1},
-        )
-        if made is None:
-            raise Wrong(f"there is no such namespace: {self.namespace}")
-        return {"workflow_id": workflow_id, "run_id": made.run_id}
-
-    def signal(self, execution, name):
-        same = {"workflow_execution": execution, "identity": self.identity, "request_id": str(uuid.uuid4())}
-        self.call("SignalWorkflowExecution", signal_name=name, **same)
-
-    def request_cancel(self, execution):
-        same = {"workflow_execution": execution, "identity": self.identity, "request_id": str(uuid.uuid4())}
-        self.call("RequestCancelWorkflowExecution", **same)
-
-    def query(self, execution, kind):
-        """What a query gives: its JSON, or why it failed."""
-        try:
-            found = self.call("QueryWorkflow", execution=execution, query={"query_type": kind})
-        except Wrong as why:
-            return str(why)
-        return " ".join(one.data.decode() for one in found.query_result.payloads) if found else "no such run"
-
-    def terminate(self, execution):
-        self.call("TerminateWorkflowExecution", workflow_execution=execution, reason="the trial is over", identity=self.identity)
-
-    def is_open(self, execution):
-        found = self.call("DescribeWorkflowExecution", execution=execution)
-        return found is not None and found.workflow_execution_info.status == RUNNING
-
-    def history(self, execution):
-        """The events of a run, in the form of the Temporal CLI's JSON, page by page."""
-        events, token = [], b""
-        while True:
-            page = self.call(
-                "GetWorkflowExecutionHistory", execution=execution, maximum_page_size=PAGE_EVENTS, next_page_token=token
-            )
-            if page is None:
-                return events
-            events += self.json.MessageToDict(page.history).get("events", [])
-            token = page.next_page_token
-            if not token:
-                return events
+def with_memo(client):
+    """What a run begins with beside its input: a memo of one value, and a retry policy by which it is not tried again."""
+    memo = client.messages.StartWorkflowExecutionRequest().memo
+    memo.fields["team"].metadata["encoding"], memo.fields["team"].data = b"json/plain", b'"shop"'
+    return {"memo": memo, "retry_policy": {"maximum_attempts": 1}}
 
 
 def options_of(asked):
@@ -184,33 +105,17 @@ def options_of(asked):
     return ["--namespace", asked.namespace, *["--tls"] * asked.tls, *(word for pair in values if pair[1] for word in pair)]
 
 
-def free_port():
-    with socket.socket() as one:
-        one.bind(("127.0.0.1", 0))
-        return one.getsockname()[1]
-
-
-def page(port, path):
-    """The status and the text of a page of a bridge, or 0 and why there is none."""
-    try:
-        with urllib.request.urlopen(f"http://127.0.0.1:{port}{path}", timeout=CALL_SECONDS) as found:
-            return found.status, found.read().decode()
-    except urllib.error.HTTPError as why:
-        return why.code, why.read().decode()
-    except OSError as why:
-        return 0, str(why)
-
-
 class Worker:
     """A bridge with a worker behind it."""
 
-    def __init__(self, asked, address, program, queue):
+    def __init__(self, asked, address, program, queue, options=None, cache=10):
+        """`options` are those of the bridge, if they are not those for the server."""
         self.room, self.port = tempfile.TemporaryDirectory(), free_port()
         metrics = f"{self.room.name}/worker.prom"
-        words = [sys.executable, str(asked.bridge), "--address", address, *options_of(asked)]
+        words = [sys.executable, str(asked.bridge), "--address", address, *(options or options_of(asked))]
         words += ["--listen", f"127.0.0.1:{self.port}", "--worker-metrics", metrics]
         words += ["--", *program, "work", "--task-queue", queue, "--namespace", asked.namespace, "--identity", "{identity}"]
-        words += ["--activity-workers", "2", "--cache", "10", "--sticky-timeout", "5", "--metrics", metrics]
+        words += ["--activity-workers", "2", "--cache", str(cache), "--sticky-timeout", "5", "--metrics", metrics]
         self.words, self.said, self.child = words, tempfile.TemporaryFile(), None
 
     def start(self):
@@ -223,12 +128,10 @@ class Worker:
 
     def kill(self):
         """Kills the bridge, and the worker that it has started, at once."""
-        children = subprocess.run(["ps", "-o", "pid=", "--ppid", str(self.child.pid)], capture_output=True, text=True)
-        for pid in [self.child.pid, *map(int, children.stdout.split())]:
-            try:
-                os.kill(pid, signal.SIGKILL)
-            except ProcessLookupError:
-                pass
+        children = children_of(self.child.pid)
+        self.child.kill()
+        for child in children:
+            kill(child)
         self.child.wait()
 
     def stop(self):
@@ -245,7 +148,7 @@ class Worker:
         until, pages = time.monotonic() + CALL_SECONDS, {}
         while time.monotonic() < until and pages.get("/ready", (0, ""))[0] != 200:
             time.sleep(0.5)
-            pages = {path: page(self.port, path) for path in ("/live", "/ready", "/metrics")}
+            pages = {path: page_of(self.port, path) for path in ("/live", "/ready", "/metrics")}
         faults = [f"{path} gives {status} {text!r}" for path, (status, text) in pages.items() if status != 200]
         names = ('temporal_request_total{', 'temporal_long_request_latency_seconds_count{', 'operation="GetSystemInfo"')
         return faults + [f"/metrics is without {name}" for name in names if name not in pages["/metrics"][1]]
@@ -268,7 +171,6 @@ class Alone:
     """The bridge alone. This script is its worker, which has the code of Greet, over a way to the server that can be away."""
 
     def __init__(self, asked, address, client, queue):
-        import bridge
         from forwarder import Forwarder
 
         host, _, port = address.rpartition(":")
@@ -280,12 +182,11 @@ class Alone:
         if len(words) > 2 and not asked.tls_server_name:
             words += ["--tls-server-name", host]
         words += ["--poll-grace", "2", "--listen", f"127.0.0.1:{self.port}"]
-        bridge.BRIDGE = Path(asked.bridge)
-        self.bridge = bridge.Bridge(self.way.port, *words, path=os.environ.get("PYTHONPATH", ""))
+        self.bridge = support.Bridge(self.way.port, *words, path=os.environ.get("PYTHONPATH", ""), script=asked.bridge)
 
     def run(self):
         """The trial: the execution of the run, which is closed then."""
-        execution = self.client.start("Greet", f"{self.queue}-greet", self.queue, payloads("bridge"))
+        execution = self.client.start("Greet", f"{self.queue}-greet", self.queue, payloads("bridge"), **with_memo(self.client))
         with self.bridge:
             try:
                 self.refuse()
@@ -293,9 +194,9 @@ class Alone:
                 self.end_activity()
                 self.complete()
                 for path in ("/live", "/ready"):
-                    self.see(path, page(self.port, path)[0], 200)
+                    self.see(path, page_of(self.port, path)[0], 200)
                 failed = 'temporal_request_failure_total{namespace="%s",operation="RespondActivityTaskCompleted",status_code="UNAVAILABLE"}'
-                self.see("the calls that failed are counted", failed % self.same["namespace"] in page(self.port, "/metrics")[1], True)
+                self.see("the calls that failed are counted", failed % self.same["namespace"] in page_of(self.port, "/metrics")[1], True)
             except Exception as why:
                 self.wrong.append(f"the bridge alone: {type(why).__name__}: {why}")
         return execution
@@ -316,34 +217,36 @@ class Alone:
 
     def answer(self, task, kind, attributes):
         """Answers a workflow task by one command."""
-        parts = [part.capitalize() for part in kind.split("_")]
-        member = parts[0].lower() + "".join(parts[1:]) + "CommandAttributes"
         params = {
-            "commands": [{"commandType": f"COMMAND_TYPE_{kind}", member: attributes}],
+            "commands": [{"commandType": f"COMMAND_TYPE_{kind}", attributes_name(kind): attributes}],
             "queryResults": {},
             "stickyAttributes": {"scheduleToStartTimeout": "60s", "workerTaskQueue": self.sticky},
             "taskToken": task["taskToken"],
         }
-        self.see(kind, self.bridge.answered("RespondWorkflowTaskCompleted", {**self.same, **params}), {})
+        return self.bridge.answered(ANSWER, {**self.same, **params})
 
     def refuse(self):
         """A namespace that is not there: the poll is refused, after --poll-grace."""
         queue, begun = {"kind": "TASK_QUEUE_KIND_NORMAL", "name": self.queue}, time.monotonic()
-        self.bridge.ask(1, "PollWorkflowTaskQueue", {**self.same, "namespace": f"no-{uuid.uuid4().hex}", "taskQueue": queue})
+        self.bridge.ask(1, TASK, {**self.same, "namespace": f"no-{uuid.uuid4().hex}", "taskQueue": queue})
         self.bridge.talk.settimeout(TASK_SECONDS)
         error = self.bridge.next().get("error", {})
         self.see("the code of a namespace that is not there", error.get("code") in (NOT_FOUND, DENIED), True)
         self.see("it was tried for a while", time.monotonic() - begun > 1, True)
 
     def schedule(self):
-        """The first task, of whose events each type has a name."""
+        """The first task, of whose events each type has a name. An answer with a retry policy that no server takes is refused,
+        and the task comes again."""
         task = self.poll("Workflow")
         types = [event["eventType"] for event in task["history"]["events"]]
         self.see("types of events", [kind for kind in types if not kind.startswith("EVENT_TYPE_")], [])
         self.input = task["history"]["events"][0][STARTED]["input"]
         attributes = {"activityId": "1", "activityType": {"name": "greet"}, "input": self.input, "taskQueue": {"name": self.queue}}
-        attributes.update(retryPolicy={"maximumAttempts": 1}, startToCloseTimeout="60s")
-        self.answer(task, "SCHEDULE_ACTIVITY_TASK", attributes)
+        attributes["startToCloseTimeout"] = "60s"
+        refused = self.answer(task, "SCHEDULE_ACTIVITY_TASK", {**attributes, "retryPolicy": BAD_POLICY})
+        self.see("the code of a retry policy that no server takes", refused[:1] if isinstance(refused, tuple) else refused, (INVALID,))
+        good = {**attributes, "retryPolicy": {"maximumAttempts": 1}}
+        self.see("an answer", self.answer(self.poll("Workflow"), "SCHEDULE_ACTIVITY_TASK", good), {})
 
     def end_activity(self):
         """The result of the activity, while the way to the server is away. A second one is refused at once."""
@@ -353,23 +256,168 @@ class Alone:
         params = {**self.same, "result": self.input, "taskToken": task["taskToken"]}
         self.way.leave(AWAY_SECONDS)
         begun = time.monotonic()
-        self.see("the result of the activity", self.bridge.answered("RespondActivityTaskCompleted", params), {})
+        self.see("the result of the activity", self.bridge.answered(RESULT, params), {})
         self.see("it is taken once the server is back", AWAY_SECONDS - 1 < time.monotonic() - begun < 2 * AWAY_SECONDS, True)
         if self.may_repeat:
             begun = time.monotonic()
-            self.see("a second result", self.bridge.answered("RespondActivityTaskCompleted", params)[:1], (NOT_FOUND,))
+            self.see("a second result", self.bridge.answered(RESULT, params)[:1], (NOT_FOUND,))
             self.see("it is refused at once", time.monotonic() - begun < CALL_SECONDS / 2, True)
 
     def complete(self):
         """The second task of the run, after which it is closed."""
-        self.answer(self.poll("Workflow", self.sticky), "COMPLETE_WORKFLOW_EXECUTION", {"result": self.input})
+        self.see("the end", self.answer(self.poll("Workflow", self.sticky), "COMPLETE_WORKFLOW_EXECUTION", {"result": self.input}), {})
+
+
+class Trouble:
+    """The program and its bridge behind a proxy that makes trouble, and that ends each connection after a while."""
+
+    def __init__(self, trial):
+        from plans import changed, in_turn, lost, refused, slow
+        from proxy import Proxy
+
+        asked, self.trial, self.client, self.queue = trial.asked, trial, trial.client, trial.queue + "-trouble"
+        self.proxy = Proxy(channel_of(asked, trial.address), beside_of(asked), PROXY_OPTIONS, POLL_SECONDS)
+        self.plan, self.wrong, self.count = self.proxy.plan, [], 0
+        self.changed, self.in_turn, self.lost, self.refused, self.slow = changed, in_turn, lost, refused, slow
+        self.worker = Worker(asked, f"127.0.0.1:{self.proxy.port}", asked.program, self.queue, ["--namespace", asked.namespace], cache=1)
+
+    def see(self, what, found, wanted):
+        if found != wanted:
+            self.wrong.append(f"behind a proxy: {what}: {found!r}, not {wanted!r}")
+
+    def run(self):
+        """Tries each trouble: what is wrong."""
+        status = None
+        try:
+            for name in TROUBLES:
+                if name not in LEFT_OUT:
+                    getattr(self, name)()
+                    self.plan.clear()
+        except Wrong as why:
+            self.wrong.append(f"behind a proxy: {why}")
+        finally:
+            if self.worker.child is not None:
+                status = self.worker.stop()
+            self.proxy.listener.stop(0)
+        self.see("the status", status, 1)
+        self.judge(self.worker.report())
+        for name, why in LEFT_OUT.items():
+            print(f"behind a proxy {name} is left out: {why}", flush=True)
+        return self.wrong
+
+    def judge(self, said):
+        """Notes what is wrong with what the worker and its bridge have said."""
+        failed = [line for line in said.splitlines() if re.search(r"\(code \d+\)", line)]
+        named = [line for line in failed if self.queue in line]
+        self.see("lines without the Task Queue or the run", [line for line in failed if line not in named], [])
+        self.see("a line of the poll that was refused", f"{TASK} of {self.queue} is refused: not now (code {NOT_FOUND})" in said, True)
+        self.see("a line of the task that was given up", "bad token; its task is given up, and comes again (code 5)" in said, True)
+
+    # Runs.
+
+    def start(self, kind, *values):
+        """Starts a run."""
+        self.count += 1
+        workflow_id = f"{self.queue}-{self.count}"
+        execution = self.client.start(kind, workflow_id, self.queue, payloads(*values), **with_memo(self.client))
+        self.trial.executions[workflow_id] = (self.trial.services[0], kind, execution)
+        return execution
+
+    def wait(self, what, condition):
+        support.soon(what, condition, TASK_SECONDS)
+
+    def are_closed(self, runs):
+        self.wait(f"{len(runs)} runs are closed", lambda: not any(map(self.client.is_open, runs)))
+
+    def types(self, execution):
+        return [event["eventType"].removeprefix("EVENT_TYPE_") for event in self.client.history(execution)]
+
+    def is_normal(self, call):
+        """Whether a poll is one of the normal queue."""
+        request = self.client.messages.PollWorkflowTaskQueueRequest.FromString(call.request)
+        return request.task_queue.name == self.queue
+
+    # What a proxy, or a server that starts or ends, may do.
+
+    def refused_polls(self):
+        """Polls that are refused once, by each code that would end a worker: runs that begin later are served."""
+        codes = (NOT_FOUND, DENIED, UNAUTHENTICATED, INVALID)
+        self.plan.add(TASK, self.in_turn(*map(self.refused, codes)), times=len(codes), picks=self.is_normal)
+        self.worker.start()
+        self.wait("the polls are made again", lambda: self.plan.calls[TASK] > len(codes) + 1)
+        self.are_closed([self.start("Greet", "Ada") for _ in range(3)])
+
+    def late_polls(self):
+        """Polls that are late at once are no busy loop."""
+        self.plan.add(TASK, self.refused(DEADLINE))
+        time.sleep(2 * POLL_SECONDS)  # Earlier polls are over.
+        self.see("at most 15 polls a second", self.proxy.calls_of(TASK, 4) <= 60, True)
+
+    def lost_responses(self):
+        """Answers that are taken, whose responses are lost."""
+        self.plan.add(ANSWER, self.lost, times=2)
+        self.are_closed([self.start("Greet", "Ada") for _ in range(2)])
+
+    def refused_pages(self):
+        """The history of a run that is not cached any more can't be fetched: its task is named, and comes again."""
+        self.plan.add(PAGE, self.refused(NOT_FOUND, "bad token"), times=1)
+        before, until = self.plan.calls[PAGE], time.monotonic() + TASK_SECONDS
+        while self.plan.calls[PAGE] == before and time.monotonic() < until:
+            self.are_closed([self.start("Greet", "Ada") for _ in range(6)])
+        self.see("a history is fetched", self.plan.calls[PAGE] > before, True)
+
+    def unknown_events(self):
+        """An event of a type that no package knows is passed over if a worker may ignore it, and else fails the task once."""
+        for may_ignore in (True, False):
+            execution = self.start("Nap")
+            self.wait("the nap begins", lambda: "TIMER_STARTED" in self.types(execution))
+            before = len(self.types(execution))
+            self.plan.add(TASK, self.changed(lambda result: self.with_unknown(result, may_ignore)))
+            time.sleep(2 * POLL_SECONDS)  # Earlier polls are over.
+            self.client.signal(execution, "noise")
+            self.wait("the task after the signal", lambda: "WORKFLOW_TASK_COMPLETED" in self.types(execution)[before:])
+            self.plan.clear()
+            failures = [event for event in self.client.history(execution) if event["eventType"] == "EVENT_TYPE_WORKFLOW_TASK_FAILED"]
+            told = [one["workflowTaskFailedEventAttributes"]["failure"]["message"].rpartition(" ")[2] for one in failures]
+            self.see("failures", told, [] if may_ignore else [f"EVENT_TYPE_{UNKNOWN_TYPE}"])
+            self.client.terminate(execution)
+
+    def with_unknown(self, result, may_ignore):
+        """The task of a first attempt, in which the last signal is an event of a type that nobody knows."""
+        task = self.client.messages.PollWorkflowTaskQueueResponse.FromString(result or b"")
+        signals = [event for event in task.history.events if event.event_type == SIGNALED]
+        if not signals or task.attempt > 1:
+            return result
+        signals[-1].event_type, signals[-1].worker_may_ignore = UNKNOWN_TYPE, may_ignore
+        return task.SerializeToString()
+
+    def busy_runs(self):
+        """A query of a run that always has a task is answered with one of them."""
+        self.plan.add(ANSWER, self.slow(0.3))
+        execution, is_over = self.start("Nap"), threading.Event()
+        self.wait("the nap begins", lambda: "TIMER_STARTED" in self.types(execution))
+
+        def signal_on():
+            while not is_over.wait(0.05):
+                self.client.signal(execution, "noise")
+
+        signals = threading.Thread(target=signal_on)
+        signals.start()
+        try:
+            time.sleep(1)
+            self.see("the query of a busy run", UNKNOWN_QUERY in self.client.query(execution, "weather", 5), True)
+        finally:
+            is_over.set()
+            signals.join()
+        self.client.terminate(execution)
 
 
 class Trial:
     """The whole trial."""
 
     def __init__(self, asked, address):
-        self.asked, self.client, self.dice = asked, Client(asked, address), random.Random(asked.seed)
+        self.asked, self.dice = asked, random.Random(asked.seed)
+        self.client = Client(address, asked.namespace, channel_of(asked, address), beside_of(asked))
         self.name = f"wfhost-{uuid.uuid4().hex[:8]}"
         queue = asked.task_queue or self.name
         self.services = [Service(asked, address, asked.program, queue, SAMPLES)]
@@ -391,7 +439,7 @@ class Trial:
         service = self.services[number % len(self.services)]
         kind = service.types[number // len(self.services) % len(service.types)]
         workflow_id = f"{self.name}-{kind.lower()}-{number}"
-        execution = self.client.start(kind, workflow_id, service.queue, self.input(kind, number, workflow_id))
+        execution = self.client.start(kind, workflow_id, service.queue, self.input(kind, number, workflow_id), **with_memo(self.client))
         self.executions[workflow_id] = (service, kind, execution)
 
     def input(self, kind, number, workflow_id):
@@ -422,7 +470,7 @@ class Trial:
         if not self.asked.queries:
             return
         for workflow_id, (_, kind, execution) in self.executions.items():
-            name, right = QUERIES.get(kind, ("weather", ["unknown query type weather; known: none"]))
+            name, right = QUERIES.get(kind, ("weather", [UNKNOWN_QUERY]))
             given = self.client.query({"workflow_id": workflow_id}, name)
             if not any(one in given for one in (right[-1:] if are_closed else right)):
                 self.wrong.append(f"the query {name} of {workflow_id} gives {given}")
@@ -443,6 +491,10 @@ class Trial:
         execution = alone.run()
         self.executions[execution["workflow_id"]] = (self.services[0], "Greet", execution)
         self.wrong += alone.wrong
+
+    def try_trouble(self):
+        """Tries the program behind a proxy that makes trouble, by runs that are some of the samples then."""
+        self.wrong += Trouble(self).run()
 
     def open_ones(self):
         """The types and the executions of the runs that are open: of a run that was continued as new, the last one."""
@@ -484,6 +536,7 @@ class Trial:
             self.wait()
             self.ask(are_closed=True)
             self.try_alone()
+            self.try_trouble()
             self.say(", ".join(f"{count} {what}" for what, count in self.done.items()))
         except (Wrong, KeyboardInterrupt) as why:
             self.wrong.append(str(why) or "interrupted")
@@ -572,7 +625,7 @@ class StandIn:
 
     def __init__(self, queues):
         # So fast that its timers are short, and so slow that no activity times out while the way to it is away.
-        words = [sys.executable, str(STAND_IN), "--task-queues", ",".join(queues), "--speed", "2"]
+        words = [sys.executable, str(STAND_IN / "serve.py"), "--task-queues", ",".join(queues), "--speed", "2"]
         self.child = subprocess.Popen(words, stdout=subprocess.PIPE, stderr=subprocess.PIPE, text=True)
         self.address = "127.0.0.1:" + self.child.stdout.readline().strip()
 
@@ -580,7 +633,7 @@ class StandIn:
         """What it has to say against the workers."""
         self.child.terminate()
         _, said = self.child.communicate(timeout=END_SECONDS)
-        return said.splitlines()
+        return [line for line in said.splitlines() if not any(fault in line for fault in OWN_FAULTS)]
 
 
 def options():
@@ -596,7 +649,7 @@ def options():
     parser.add_argument("--pause", type=float, default=3, help="seconds before and after the kill (3)")
     parser.add_argument("--program", type=str.split, default=[str(PROGRAM)], help="another program with the samples, as words")
     parser.add_argument("--orders", type=str.split, help="the program of orders, as words, of which runs are started too")
-    parser.add_argument("--bridge", default=BRIDGE, help="another bridge")
+    parser.add_argument("--bridge", default=support.BRIDGE, help="another bridge")
     parser.add_argument("--queries", action="store_true", help="asks each run three times, with the workers at work, again and after the end")
     parser.add_argument("--keep", help="a folder for the histories")
     parser.add_argument("--seed", type=int, default=1, help="which runs are signaled and asked to be canceled (1)")
@@ -604,12 +657,6 @@ def options():
     for name in BRIDGE_OPTIONS:
         parser.add_argument(name, metavar={"--api-key": "KEY", "--tls-server-name": "NAME"}.get(name, "FILE"))
     return parser.parse_args()
-
-
-def use_trimmed():
-    """Takes the stand-in's messages in the place of those of Temporal's package."""
-    sys.path.insert(0, str(TRIMMED))
-    os.environ["PYTHONPATH"] = os.pathsep.join(filter(None, [str(TRIMMED), os.environ.get("PYTHONPATH")]))
 
 
 def try_all(asked, address):
@@ -632,9 +679,9 @@ def main():
     signal.signal(signal.SIGTERM, signal.default_int_handler)
     asked, stand_in = options(), None
     if asked.stand_in:
-        use_trimmed()
+        support.use_trimmed()
         asked.task_queue = asked.task_queue or "trial"
-        stand_in = StandIn([asked.task_queue + end for end in ("", "-orders", "-bridge")])
+        stand_in = StandIn([asked.task_queue + end for end in ("", "-orders", "-bridge", "-trouble")])
     runs, closed, wrong = try_all(asked, stand_in.address if stand_in else asked.address)
     wrong += stand_in.stop() if stand_in else []
     for what in wrong:
