@@ -2,28 +2,36 @@
 
 ghost use Rattle.std.specs.Prelude.{◌≡◌};
 ghost use Rattle.serde_json.specs.View.{view};
+ghost use Rattle.wh_json.specs.Fields.{number_of};
 ghost use Rattle.wh_responses.specs.Completions as spec;
+ghost use Rattle.wh_responses.specs.Completions.{sets_back};
 
 use serde_json::Value;
 use wh_json::{field, number_of};
 
-/// Returns the number of the event to which a response to `RespondWorkflowTaskCompleted` sets its
-/// run back, its `resetHistoryEventId`. A missing value is 0, as in proto3 JSON, and so is one that
-/// is not a number of a history.
-fn reset_event_in(value: &Value) -> u64
-    ensures { result ≡ spec.reset_event_in (view value.now) }
+/// Returns whether a `resetHistoryEventId` may name an event to which a run is set back: it is not
+/// zero, as a number or as a text of digits.
+fn sets_back(event: &Value) -> bool
+    ensures { result ≡ sets_back (number_of (view event.now)) }
 {
-    match field(Some(value), "resetHistoryEventId") {
-        Some(event) => number_of(event).unwrap_or(0),
-        None => 0,
+    match number_of(event) {
+        Some(number) => number > 0,
+        None => true,
     }
 }
 
 /// Returns whether a response to `RespondWorkflowTaskCompleted` says that the server has discarded
-/// the task: it sets the run back to an event. The events of such a task are in no history, as it
-/// may happen to a task that an update made.
+/// the task: it sets the run back to an event, its `resetHistoryEventId`. The events of such a task
+/// are in no history, as it may happen to a task that an update made.
+///
+/// A value that is missing or zero says that the task is kept, as in proto3 JSON. One that can't be
+/// read as a number of a history counts as an event, since a run that is not cached only costs a
+/// replay, and one that is cached after a discarded task would be wrong.
 pub fn is_discarded(value: &Value) -> bool
     ensures { result ≡ spec.is_discarded (view value.now) }
 {
-    reset_event_in(value) > 0
+    match field(Some(value), "resetHistoryEventId") {
+        Some(event) => sets_back(event),
+        None => false,
+    }
 }

@@ -19,8 +19,8 @@ pub fn cancels_are_read()
     ensures { CancelIsRead }
 {}
 
-/// Whether a workflow task was discarded is read as the server writes it, and is false if the
-/// server omits it.
+/// Whether a workflow task was discarded is read as the server writes it, is false if the server
+/// omits it, and true if what is written can't be read.
 pub fn discards_are_read()
     ensures { DiscardIsRead }
 {}
