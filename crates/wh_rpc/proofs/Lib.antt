@@ -3,5 +3,6 @@ pub mod Listing
 pub mod ReadBack
 pub mod LineEnds
 pub mod Parts
+pub mod Large
 pub mod Reasoning
 pub mod Printing

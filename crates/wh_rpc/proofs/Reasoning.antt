@@ -6,12 +6,14 @@ use Rattle.std.proofs.lemmas.Bool.{true≢false, ltb-true, lt-ltb}
 use Rattle.std.proofs.lemmas.Option.{same_Some, none-some}
 use Rattle.std.proofs.lemmas.Slice.Eq.{bytes_eq-Decides}
 use Rattle.std.proofs.lemmas.Str.{is_utf8-from_IsUtf8, IsUtf8-from_is_utf8}
+use Rattle.json.specs.Json.{Json}
 use Rattle.serde_json.specs.Data.{Data, Members}
 use Rattle.serde_json.specs.Find.{get, as_object, as_str}
 use Rattle.serde_json.specs.Read.{read}
 use Rattle.wh_rpc.specs.declared.bad_line.BadLine.{BadLine}
 use Rattle.wh_rpc.specs.declared.bad_line.BadLine.TheVariants as bad
-use Rattle.wh_rpc.specs.Responses.{Meaning, answers, shutdown, refused, ◌>>=◌, code_of, id_of, message_of, has_two, longest, meaning, notice_by, notice_or_response, outcome_by, outcome_of, refusal_of, response_of, said_by, text_of}
+use Rattle.wh_rpc.specs.Responses.{Meaning, answers, shutdown, refused, ◌>>=◌, code_of, id_of, message_of, has_two, longest, meaning, notice_by, notice_or_response, outcome_by, outcome_of, refusal_of, response_of, said_by, text_of, json_of, value_by, value_of}
+use Rattle.wh_rpc.proofs.Large.{large_of, no_value_of, read_is_json, read_of}
 use Rattle.wh_rpc.specs.Reasons.{Applies, HasFault, IsFaulty, IsFirst, ReasonsComeInOrder, MeaningsHaveNoFault, rank}
 
 -- ---- The order
@@ -20,19 +22,21 @@ at_rank : ℕ → BadLine
 at_rank zero = bad.TooLong
 at_rank (suc zero) = bad.NotUtf8
 at_rank (suc (suc zero)) = bad.NotJson
-at_rank (suc (suc (suc zero))) = bad.NotObject
-at_rank (suc (suc (suc (suc zero)))) = bad.NotResponse
-at_rank (suc (suc (suc (suc (suc zero))))) = bad.TwoOutcomes
-at_rank (suc (suc (suc (suc (suc (suc zero)))))) = bad.BadId
-at_rank (suc (suc (suc (suc (suc (suc (suc zero))))))) = bad.NoOutcome
-at_rank (suc (suc (suc (suc (suc (suc (suc (suc zero)))))))) = bad.BadError
-at_rank (suc (suc (suc (suc (suc (suc (suc (suc (suc n))))))))) = bad.OutOfMemory
+at_rank (suc (suc (suc zero))) = bad.NumberOutOfRange
+at_rank (suc (suc (suc (suc zero)))) = bad.NotObject
+at_rank (suc (suc (suc (suc (suc zero))))) = bad.NotResponse
+at_rank (suc (suc (suc (suc (suc (suc zero)))))) = bad.TwoOutcomes
+at_rank (suc (suc (suc (suc (suc (suc (suc zero))))))) = bad.BadId
+at_rank (suc (suc (suc (suc (suc (suc (suc (suc zero)))))))) = bad.NoOutcome
+at_rank (suc (suc (suc (suc (suc (suc (suc (suc (suc zero))))))))) = bad.BadError
+at_rank (suc (suc (suc (suc (suc (suc (suc (suc (suc (suc n)))))))))) = bad.OutOfMemory
 
 back : (reason : BadLine) → at_rank (rank reason) ≡ reason
 unfolding at_rank
 back bad.TooLong = refl
 back bad.NotUtf8 = refl
 back bad.NotJson = refl
+back bad.NumberOutOfRange = refl
 back bad.NotObject = refl
 back bad.NotResponse = refl
 back bad.TwoOutcomes = refl
@@ -73,10 +77,11 @@ module _ (d : Data) where
   abbrev NoneAt : ℕ → Type 0
   NoneAt n = (other : BadLine) → rank other < n → ¬ IsFaulty other d
 
-  none_at_first : NoneAt 3
+  none_at_first : NoneAt 4
   none_at_first bad.TooLong h fault = fault
   none_at_first bad.NotUtf8 h fault = fault
   none_at_first bad.NotJson h fault = fault
+  none_at_first bad.NumberOutOfRange h fault = fault
   none_at_first bad.NotObject h fault = omega (arith, h)
   none_at_first bad.NotResponse h fault = omega (arith, h)
   none_at_first bad.TwoOutcomes h fault = omega (arith, h)
@@ -97,10 +102,11 @@ module _ (d : Data) where
   Judges (Ok said) = (reason : BadLine) → ¬ IsFaulty reason d
   Judges (Err reason) = IsFaulty reason d × NoneAt (rank reason)
 
-  all_of : NoneAt 9 → (reason : BadLine) → ¬ IsFaulty reason d
+  all_of : NoneAt 10 → (reason : BadLine) → ¬ IsFaulty reason d
   all_of none bad.TooLong = none bad.TooLong (omega arith)
   all_of none bad.NotUtf8 = none bad.NotUtf8 (omega arith)
   all_of none bad.NotJson = none bad.NotJson (omega arith)
+  all_of none bad.NumberOutOfRange = none bad.NumberOutOfRange (omega arith)
   all_of none bad.NotObject = none bad.NotObject (omega arith)
   all_of none bad.NotResponse = none bad.NotResponse (omega arith)
   all_of none bad.TwoOutcomes = none bad.TwoOutcomes (omega arith)
@@ -115,7 +121,7 @@ module _ (d : Data) where
   abbrev error_in : Option Data
   error_in = get (codes "error") d
 
-  of_message : (error : Data) (id : ℕ) (code : ℤ) → method_in ≡ None → error_in ≡ Some error → code_of error ≡ Some code → NoneAt 8
+  of_message : (error : Data) (id : ℕ) (code : ℤ) → method_in ≡ None → error_in ≡ Some error → code_of error ≡ Some code → NoneAt 9
       → (o : Option (List ℕ)) → message_of error ≡ o → Judges ((ok_or o bad.BadError >>= (λ message. Ok (refused code message))) >>= (λ answer. Ok (answers id answer)))
   of_message error id code no_method is has_code before None none = ((no_method, (error, is, inr none)), before)
   of_message error id code no_method is has_code before (Some message) has =
@@ -126,12 +132,12 @@ module _ (d : Data) where
         | inr none ↦ or_none (message_of error) message has (ap message_of (sym same) ∙ none)
       ]))
 
-  of_code : (error : Data) (id : ℕ) → method_in ≡ None → error_in ≡ Some error → NoneAt 8 → (o : Option ℤ) → code_of error ≡ o
+  of_code : (error : Data) (id : ℕ) → method_in ≡ None → error_in ≡ Some error → NoneAt 9 → (o : Option ℤ) → code_of error ≡ o
       → Judges ((ok_or o bad.BadError >>= (λ code. ok_or (message_of error) bad.BadError >>= (λ message. Ok (refused code message)))) >>= (λ answer. Ok (answers id answer)))
   of_code error id no_method is before None none = ((no_method, (error, is, inl none)), before)
   of_code error id no_method is before (Some code) has = of_message error id code no_method is has before (message_of error) refl
 
-  of_outcome : (id : ℕ) → method_in ≡ None → NoneAt 7 → (error result : Option Data) → error_in ≡ error → get (codes "result") d ≡ result
+  of_outcome : (id : ℕ) → method_in ≡ None → NoneAt 8 → (error result : Option Data) → error_in ≡ error → get (codes "result") d ≡ result
       → Judges (outcome_by error result >>= (λ answer. Ok (answers id answer)))
   unfolding refusal_of
   of_outcome id no_method before (Some error) result is has =
@@ -140,13 +146,13 @@ module _ (d : Data) where
       all_of (more bad.BadError (more bad.NoOutcome before (λ fault. or_none (get (codes "result") d) result has fault.1)) (λ fault. or_none error_in fault.1.0 fault.1.1 is))
   of_outcome id no_method before None None is has = ((no_method, has, is), before)
 
-  of_id : method_in ≡ None → NoneAt 6 → (o : Option ℕ) → id_of d ≡ o → Judges (ok_or o bad.BadId >>= (λ id. outcome_of d >>= (λ answer. Ok (answers id answer))))
+  of_id : method_in ≡ None → NoneAt 7 → (o : Option ℕ) → id_of d ≡ o → Judges (ok_or o bad.BadId >>= (λ id. outcome_of d >>= (λ answer. Ok (answers id answer))))
   unfolding outcome_of
   of_id no_method before None none = ((no_method, none), before)
   of_id no_method before (Some id) has =
       of_outcome id no_method (more bad.BadId before (λ fault. or_none (id_of d) id has fault.1)) error_in (get (codes "result") d) refl refl
 
-  of_two : method_in ≡ None → NoneAt 5 → (b : Bool) → has_two d ≡ b
+  of_two : method_in ≡ None → NoneAt 6 → (b : Bool) → has_two d ≡ b
       → Judges (cond b (Err bad.TwoOutcomes) (ok_or (id_of d) bad.BadId >>= (λ id. outcome_of d >>= (λ answer. Ok (answers id answer)))))
   of_two no_method before true two =
       let each = each_true (is_some (get (codes "result") d)) (is_some error_in) two in
@@ -155,14 +161,14 @@ module _ (d : Data) where
       of_id no_method (more bad.TwoOutcomes before (λ fault.
       true≢false (sym (both_true (is_some (get (codes "result") d)) (is_some error_in) (is_there (get (codes "result") d) fault.1) (is_there error_in fault.2)) ∙ one))) (id_of d) refl
 
-  no_response : (method : Data) → method_in ≡ Some method → NoneAt 5 → NoneAt 9
+  no_response : (method : Data) → method_in ≡ Some method → NoneAt 6 → NoneAt 10
   no_response method is before =
       more bad.BadError
       (more bad.NoOutcome
       (more bad.BadId (more bad.TwoOutcomes before (λ fault. or_none method_in method is fault.0)) (λ fault. or_none method_in method is fault.0))
       (λ fault. or_none method_in method is fault.0)) (λ fault. or_none method_in method is fault.0)
 
-  of_name : (method : Data) (name : List ℕ) → method_in ≡ Some method → as_str method ≡ Some name → NoneAt 4 → (b : Bool) → bytes_eq name (codes "shutdown") ≡ b
+  of_name : (method : Data) (name : List ℕ) → method_in ≡ Some method → as_str method ≡ Some name → NoneAt 5 → (b : Bool) → bytes_eq name (codes "shutdown") ≡ b
       → Judges (cond b (Ok shutdown) (Err bad.NotResponse))
   of_name method name is has before true same =
       let shut : name ≡ codes "shutdown" = (bytes_eq-Decides name (codes "shutdown")).0 same in
@@ -171,11 +177,11 @@ module _ (d : Data) where
   of_name method name is has before false other =
       ((method, is, λ shut. true≢false (sym ((bytes_eq-Decides name (codes "shutdown")).1 (same_Some name (codes "shutdown") (sym has ∙ shut))) ∙ other)), before)
 
-  of_notice : (method : Data) → method_in ≡ Some method → NoneAt 4 → (o : Option (List ℕ)) → as_str method ≡ o → Judges (notice_by o)
+  of_notice : (method : Data) → method_in ≡ Some method → NoneAt 5 → (o : Option (List ℕ)) → as_str method ≡ o → Judges (notice_by o)
   of_notice method is before None none = ((method, is, λ shut. none-some (codes "shutdown") (sym none ∙ shut)), before)
   of_notice method is before (Some name) has = of_name method name is has before (bytes_eq name (codes "shutdown")) refl
 
-  of_method : NoneAt 4 → (o : Option Data) → method_in ≡ o → Judges (notice_or_response o d)
+  of_method : NoneAt 5 → (o : Option Data) → method_in ≡ o → Judges (notice_or_response o d)
   unfolding response_of
   of_method before None none = of_two none (more bad.NotResponse before (λ fault. or_none method_in fault.0 fault.1 none)) (has_two d) refl
   of_method before (Some method) is = of_notice method is before (as_str method) refl
@@ -209,7 +215,7 @@ next bytes reason before not other less =
       | inr same ↦ subst (λ r. ¬ Applies r bytes) (sym (rank_same other reason same)) not
     ]
 
-module _ (bytes : List ℕ) (d : Data) (has : read bytes ≡ Some d) (before : NoneOf 3 bytes) where
+module _ (bytes : List ℕ) (d : Data) (has : read bytes ≡ Some d) (before : NoneOf 4 bytes) where
   -- the line has only this value
   not_faulty : (reason : BadLine) → ¬ IsFaulty reason d → ¬ HasFault reason bytes
   not_faulty reason not fault = not (subst (IsFaulty reason) (same_Some fault.0 d (sym fault.1 ∙ has)) fault.2)
@@ -218,6 +224,7 @@ module _ (bytes : List ℕ) (d : Data) (has : read bytes ≡ Some d) (before : N
   not_applied bad.TooLong not = before bad.TooLong (omega arith)
   not_applied bad.NotUtf8 not = before bad.NotUtf8 (omega arith)
   not_applied bad.NotJson not = before bad.NotJson (omega arith)
+  not_applied bad.NumberOutOfRange not = before bad.NumberOutOfRange (omega arith)
   not_applied bad.NotObject not = not_faulty bad.NotObject not
   not_applied bad.NotResponse not = not_faulty bad.NotResponse not
   not_applied bad.TwoOutcomes not = not_faulty bad.TwoOutcomes not
@@ -230,6 +237,7 @@ module _ (bytes : List ℕ) (d : Data) (has : read bytes ≡ Some d) (before : N
   applied bad.TooLong fault = absurd fault
   applied bad.NotUtf8 fault = absurd fault
   applied bad.NotJson fault = absurd fault
+  applied bad.NumberOutOfRange fault = absurd fault
   applied bad.NotObject fault = (d, has, fault)
   applied bad.NotResponse fault = (d, has, fault)
   applied bad.TwoOutcomes fault = (d, has, fault)
@@ -242,20 +250,29 @@ module _ (bytes : List ℕ) (d : Data) (has : read bytes ≡ Some d) (before : N
   lifted (Ok said) judged = λ reason. not_applied reason (judged reason)
   lifted (Err reason) judged = record { applies = applied reason judged.0; first = λ other less. not_applied other (judged.1 other less) }
 
-of_read : (bytes : List ℕ) → NoneOf 2 bytes → (o : Option Data) → read bytes ≡ o → Judged bytes (ok_or o bad.NotJson >>= said_by)
-of_read bytes before None none = record { applies = none; first = before }
-of_read bytes before (Some d) has =
-    lifted bytes d has (next bytes bad.NotJson before (λ none. or_none (read bytes) d has none)) (said_by d) (value_judged d)
+of_read : (bytes : List ℕ) → NoneOf 2 bytes → (o : Option Data) (json : Option Json) → read bytes ≡ o → json_of bytes ≡ json
+    → Judged bytes (value_by o (is_some json) >>= said_by)
+of_read bytes before None None none no_json = record { applies = no_json; first = before }
+of_read bytes before None (Some j) none is =
+    record {
+      applies = (j, is, large_of j (sym (read_of bytes j is) ∙ none));
+      first = next bytes bad.NotJson before (λ no_json. or_none (json_of bytes) j is no_json);
+    }
+of_read bytes before (Some d) json has is =
+    lifted bytes d has
+    (next bytes bad.NumberOutOfRange
+    (next bytes bad.NotJson before (read_is_json bytes d has))
+    (λ large. or_none (read bytes) d has (read_of bytes large.0 large.1 ∙ no_value_of large.0 large.2))) (said_by d) (value_judged d)
 
 of_text : (bytes : List ℕ) → NoneOf 1 bytes → (b : Bool) → is_utf8 bytes ≡ b
-    → Judged bytes (cond b (Ok bytes) (Err bad.NotUtf8) >>= (λ text. ok_or (read text) bad.NotJson >>= said_by))
+    → Judged bytes (cond b (Ok bytes) (Err bad.NotUtf8) >>= (λ text. value_of text >>= said_by))
 of_text bytes before true is =
-    of_read bytes (next bytes bad.NotUtf8 before (λ other. other (IsUtf8-from_is_utf8 bytes is))) (read bytes) refl
+    of_read bytes (next bytes bad.NotUtf8 before (λ other. other (IsUtf8-from_is_utf8 bytes is))) (read bytes) (json_of bytes) refl refl
 of_text bytes before false other =
     record { applies = λ text. true≢false (sym (is_utf8-from_IsUtf8 bytes text) ∙ other); first = before }
 
 of_length : (bytes : List ℕ) → (b : Bool) → nat_lt longest (length bytes) ≡ b
-    → Judged bytes (cond b (Err bad.TooLong) (text_of bytes >>= (λ text. ok_or (read text) bad.NotJson >>= said_by)))
+    → Judged bytes (cond b (Err bad.TooLong) (text_of bytes >>= (λ text. value_of text >>= said_by)))
 of_length bytes true long = record { applies = ltb-true longest (length bytes) long; first = no_first bytes }
 of_length bytes false short =
     of_text bytes (next bytes bad.TooLong (no_first bytes) (λ long. true≢false (sym (lt-ltb longest (length bytes) long) ∙ short))) (is_utf8 bytes) refl

@@ -1,10 +1,12 @@
 -- What the lines of the bridge say.
-use Rattle.std.specs.Prelude.{◌≡◌, ◌≢◌, ℕ, ℤ, ◌&&◌, List, Bool, codes, Option, Some, None, Result, Ok, Err, nat_lt, length, is_some, option_and_then, string_bytes, if◌then◌else◌}
+use Rattle.std.specs.Prelude.{◌≡◌, ◌≢◌, ℕ, ℤ, ◌&&◌, List, Bool, true, false, codes, Option, Some, None, Result, Ok, Err, nat_lt, length, is_some, option_and_then, string_bytes, if◌then◌else◌}
 use Rattle.std.specs.Option.{ok_or}
 use Rattle.std.specs.Str.{bytes_eq, is_utf8}
+use Rattle.json.specs.Json as json
+use Rattle.json.specs.Lex.{tokens}
 use Rattle.serde_json.specs.Data.{Data}
 use Rattle.serde_json.specs.Find.{get, as_number, as_u64, as_i64, as_str, as_object}
-use Rattle.serde_json.specs.Read.{read}
+use Rattle.serde_json.specs.Read.{max_depth, read}
 use Rattle.serde_json.specs.View.{view}
 use Rattle.wh_rpc.specs.declared.bad_line.BadLine.{BadLine}
 use Rattle.wh_rpc.specs.declared.bad_line.BadLine.TheVariants as bad
@@ -103,6 +105,20 @@ said_by d = if is_some (as_object d) then notice_or_response (get (codes "method
 abbrev pub text_of : List ℕ → Result (List ℕ) BadLine
 text_of bytes = if is_utf8 bytes then Ok bytes else Err bad.NotUtf8
 
+-- a text as JSON, in which each number is a text
+abbrev pub json_of : List ℕ → Option json.Json
+json_of text = option_and_then (λ p. json.if_last p.0 p.1) (json.value max_depth (tokens text))
+
+-- JSON without a value has a number that is out of range
+abbrev pub value_by : Option Data → (is_json : Bool) → Result Data BadLine
+value_by (Some d) is_json = Ok d
+value_by None true = Err bad.NumberOutOfRange
+value_by None false = Err bad.NotJson
+
+-- the value of a text
+abbrev pub value_of : List ℕ → Result Data BadLine
+value_of text = value_by (read text) (is_some (json_of text))
+
 -- the maximum length of a line in bytes
 abbrev pub longest : ℕ
 longest = 134217728
@@ -111,4 +127,4 @@ longest = 134217728
 unfoldable pub meaning : List ℕ → Result Meaning BadLine
 meaning bytes =
     if nat_lt longest (length bytes) then Err bad.TooLong
-    else (text_of bytes >>= (λ text. ok_or (read text) bad.NotJson >>= said_by))
+    else (text_of bytes >>= (λ text. value_of text >>= said_by))

@@ -19,6 +19,9 @@ pub enum BadLine {
     /// Its text is not JSON (RFC 8259), or nests deeper than 127.
     #[error("it is no JSON")]
     NotJson,
+    /// A number in it is out of the range of a float, such as `1e400`.
+    #[error("a number in it is out of range")]
+    NumberOutOfRange,
     /// Its value is not an object.
     #[error("it is no object")]
     NotObject,
@@ -29,13 +32,13 @@ pub enum BadLine {
     #[error("it has both a result and an error")]
     TwoOutcomes,
     /// Its `id` is missing, or is not a whole number below 2^64.
-    #[error("its id is no number")]
+    #[error("its id is no whole number below 2^64")]
     BadId,
     /// It has neither a `result` nor an `error`.
     #[error("it has neither a result nor an error")]
     NoOutcome,
     /// Its `error` has no `code` that is a signed 64-bit number, or no `message` that is a string.
-    #[error("its error has no code and message")]
+    #[error("its error has no code of 64 bits, or no message")]
     BadError,
     /// An allocation failed. This can replace every reason but the first two.
     #[error("out of memory")]

@@ -31,13 +31,15 @@ enum Unused {
 }
 
 /// Returns whether a malformed line may have been a response, whose call would then wait forever:
-/// it is too long, there was no memory for it, or it begins with `{` and is not UTF-8 or not JSON.
+/// it is too long, there was no memory for it, or it begins with `{` and is not UTF-8, is not JSON,
+/// or has a number that is out of range.
 fn may_be_response(fault: BadLine, bytes: &[u8]) -> bool
     ensures { result ≡ may_be_response fault bytes.now }
 {
     match fault {
         BadLine::TooLong | BadLine::OutOfMemory => true,
-        BadLine::NotUtf8 | BadLine::NotJson => bytes.first() == Some(&b'{'),
+        BadLine::NotUtf8 | BadLine::NotJson | BadLine::NumberOutOfRange => bytes.first()
+            == Some(&b'{'),
         BadLine::NotObject
         | BadLine::NotResponse
         | BadLine::TwoOutcomes
@@ -151,7 +153,8 @@ fn take_next<R: Wait + Eprint, N: Display, B: BufRead, C: Caller>(
 /// At the end of the input, and if it cannot be read, all calls end: those that wait and all new
 /// ones fail with `Closed`. So they do after a malformed line that may have been a response, which
 /// is reported too: one of more than `MAX_LINE` bytes, one for which there was no memory, one that
-/// begins with `{` and is not JSON. Nothing after such a line is read.
+/// begins with `{` and is not JSON, or has a number that is out of range. Nothing after such a line
+/// is read.
 pub fn read_lines<R: Wait + Eprint, N: Display, B: BufRead + Drop, C: Caller>(
     rt: &R,
     alloc: Global,

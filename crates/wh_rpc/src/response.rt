@@ -1,21 +1,26 @@
 //! Reads a line of the bridge.
 
-ghost use Rattle.std.specs.Prelude.{◌≡◌, ◌≢◌, codes, option_map, IfOk, IfErr, Some, None, is_some};
+ghost use Rattle.std.specs.Prelude.{◌≡◌, ◌≢◌, ◌↔◌, codes, option_map, IfOk, IfErr, Some, None, is_some};
+ghost use Rattle.std.specs.Prelude.{Err, IsSome, IsTrue};
 ghost use Rattle.std.specs.Option.{ok_or};
 ghost use Rattle.serde_json.specs.Find.{get};
 ghost use Rattle.serde_json.specs.Read.{read};
 ghost use Rattle.serde_json.specs.View.{view};
 ghost use Rattle.wh_rpc.specs.Responses.{Gives, answer_seen, response_seen, line_seen};
 ghost use Rattle.wh_rpc.specs.Responses.{refusal_of, outcome_of, has_two, response_of, notice_by};
-ghost use Rattle.wh_rpc.specs.Responses.{said_by, meaning, id_of, text_of};
+ghost use Rattle.wh_rpc.specs.Responses.{said_by, meaning, id_of, json_of, text_of, value_of};
 
 use crate::bad_line::BadLine;
+use json::{Reader, Scratch};
 use serde_json::Value;
 use serde_json::error::Category;
-use std::alloc::Global;
+use std::alloc::{AllocError, Global};
 
 /// The maximum length of a line in bytes: 128 MiB.
 pub const MAX_LINE: usize = 134_217_728;
+
+/// How deep lists and objects may nest.
+const MAX_DEPTH: usize = 127;
 
 /// How the bridge answers a call.
 #[derive(Debug, Drop)]
@@ -153,15 +158,36 @@ fn text_in(bytes: &[u8]) -> Result<&str, BadLine>
     }
 }
 
+/// Returns whether a text is JSON, however large its numbers are.
+fn is_json(alloc: Global, text: &str) -> Result<bool, AllocError>
+    ensures { IfOk result (λ valid. IsTrue valid ↔ IsSome (json_of text.now)) }
+{
+    let mut scratch = Scratch::new(alloc);
+    let mut reader = Reader::new(text, &mut scratch)?;
+    Ok(reader.skip_value(MAX_DEPTH).is_ok() && reader.next().is_none())
+}
+
+/// Returns why a text has no value.
+fn no_value(alloc: Global, text: &str) -> BadLine
+    requires { read text.now ≡ None }
+    ensures { result ≢ BadLine.OutOfMemory → value_of text.now ≡ Err result }
+{
+    match is_json(alloc, text) {
+        Ok(true) => BadLine::NumberOutOfRange,
+        Ok(false) => BadLine::NotJson,
+        Err(_) => BadLine::OutOfMemory,
+    }
+}
+
 /// Parses a text as JSON.
 fn value_in(alloc: Global, text: &str) -> Result<Value, BadLine>
-    ensures { Gives view result (ok_or (read text.now) BadLine.NotJson) }
+    ensures { Gives view result (value_of text.now) }
 {
     match Value::from_str(alloc, text) {
         Ok(value) => Ok(value),
         Err(e) => match e.classify() {
             Category::Memory => Err(BadLine::OutOfMemory),
-            _ => Err(BadLine::NotJson),
+            _ => Err(no_value(alloc, text)),
         },
     }
 }

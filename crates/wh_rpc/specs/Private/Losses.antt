@@ -17,6 +17,7 @@ abbrev pub may_be_response : BadLine → List ℕ → Bool
 may_be_response bad.TooLong bytes = true
 may_be_response bad.NotUtf8 bytes = begins_object bytes
 may_be_response bad.NotJson bytes = begins_object bytes
+may_be_response bad.NumberOutOfRange bytes = begins_object bytes
 may_be_response bad.NotObject bytes = false
 may_be_response bad.NotResponse bytes = false
 may_be_response bad.TwoOutcomes bytes = false
