@@ -1,5 +1,5 @@
 -- Reading a request by the names of its fields yields what was written.
-use Rattle.std.proofs.Common.{◌≡◌, ◌⊎◌, ◌<◌, ◌==◌, ◌^◌, ℕ, ◌+◌, List, [], ◌∷◌, ◌++◌, get_or, length, codes, decimal, Bool, true, false, cond, nat_lt, Option, Some, None, option_map, Result, Ok, Err, refl, ap, subst, ◌∙◌, arith, inl, inr}
+use Rattle.std.proofs.Common.{◌≡◌, ◌⊎◌, ◌<◌, ◌==◌, ◌^◌, ℕ, ◌+◌, List, [], ◌∷◌, ◌++◌, get_or, length, codes, decimal, Bool, true, false, cond, nat_lt, Option, Some, None, option_map, unwrap_or, Result, Ok, Err, refl, ap, subst, ◌∙◌, arith, inl, inr}
 use Rattle.serde_json.specs.Data.{Data, Members, no_members, number, object, string, unsigned}
 use Rattle.serde_json.specs.Find.{as_bool, as_number, as_str, as_u64, get, get_member}
 use Rattle.std.proofs.lemmas.Fmt.{decimal_is_IsNumeral, first_decimal}
@@ -20,9 +20,9 @@ use Rattle.wh_commands.specs.CarryingOver.{Carried}
 use Rattle.wh_commands.specs.Commands as spec
 use Rattle.wh_commands.specs.Commands.{carried_asked}
 use Rattle.wh_commands.specs.Durations.{delay_text, duration_text, longest_duration}
-use Rattle.wh_commands.specs.Objects.{object_of, put_all, put_given, value_or}
+use Rattle.wh_commands.specs.Objects.{object_of, put_given, value_or}
 use Rattle.wh_commands.specs.Options.{◌>>=◌}
-use Rattle.wh_commands.specs.Policies.{activity_asked, child_asked, continued_asked, failure_asked, failure_info, float_written, id_reuse_name, non_retryable, parent_close_name, retry_asked, retry_written, seconds_written, texts_given}
+use Rattle.wh_commands.specs.Policies.{activity_asked, attempts_asked, child_asked, continued_asked, failure_asked, failure_info, float_written, id_reuse_name, non_retryable, parent_close_name, retry_asked, retry_written, seconds_written, texts_given}
 use Rattle.wh_commands.specs.ReadBack.{seconds_of, text_at}
 use Rattle.wh_commands.specs.ServerReads.{Fits, IsPositive, IsActivity, IsChild, IsContinued, IsFailure, IsRetry, HasRetry, HasSeconds, Queue, queue_at, Says, CommandsAreRead}
 use Rattle.wh_commands.proofs.Members.{asked_at, given_at, or_none}
@@ -98,13 +98,22 @@ final_read retryable d is = ap (λ o. o >>= as_bool) is ∙ by retryable
     by true = refl
     by false = refl
 
+attempts_read : (attempts : ℕ) (d : Data) → get (codes "maximumAttempts") d ≡ attempts_asked attempts
+    → unwrap_or (get (codes "maximumAttempts") d >>= as_number >>= as_u64) 0 ≡ attempts
+attempts_read attempts d is = ap (λ o. unwrap_or (o >>= as_number >>= as_u64) 0) is ∙ by (attempts == 0) refl
+  where
+    by : (b : Bool) → (attempts == 0) ≡ b
+        → unwrap_or (cond b None (Some (number (unsigned attempts))) >>= as_number >>= as_u64) 0 ≡ attempts
+    by true e = grind (arith, e)
+    by false e = refl
+
 retry_read : (retry : RetryPolicy) → IsRetry retry (retry_written retry)
 retry_read retry =
     let asked = retry_asked retry in
-    let members = put_all ((codes "maximumAttempts", number (unsigned retry.maximum_attempts)) ∷ []) no_members in
+    let members = no_members in
     let d = retry_written retry in
     record {
-      attempts = ap (λ o. o >>= as_number >>= as_u64) (given_at (codes "maximumAttempts") asked members);
+      attempts = attempts_read retry.maximum_attempts d (asked_at (codes "maximumAttempts") asked members (attempts_asked retry.maximum_attempts) refl);
       initial = seconds_read (codes "initialInterval") retry.initial_interval d (asked_at (codes "initialInterval") asked members (option_map seconds_written retry.initial_interval) refl);
       maximum = seconds_read (codes "maximumInterval") retry.maximum_interval d (asked_at (codes "maximumInterval") asked members (option_map seconds_written retry.maximum_interval) refl);
       coefficient = asked_at (codes "backoffCoefficient") asked members (option_map float_written retry.backoff_coefficient) refl;

@@ -1,5 +1,5 @@
 -- How the options of a command are written.
-use Rattle.std.specs.Prelude.{ℕ, Float, List, [], ◌∷◌, Bool, true, false, codes, map, Option, Some, None, option_map, unwrap_or}
+use Rattle.std.specs.Prelude.{ℕ, ◌==◌, Float, List, [], ◌∷◌, Bool, true, false, codes, map, Option, Some, None, option_map, unwrap_or, if◌then◌else◌}
 use Rattle.serde_json.specs.Data.{Data, array, boolean, no_members, null, number, object, string, unsigned}
 use Rattle.serde_json.specs.Find.{of_float}
 use Rattle.serde_json.specs.View.{items_of}
@@ -14,7 +14,7 @@ use Rattle.wh_policies.specs.declared.policies.ParentClosePolicy.TheVariants.{Te
 use Rattle.wh_policies.specs.declared.policies.RetryPolicy.{RetryPolicy}
 use Rattle.wh_commands.specs.declared.names.WorkerNames.{WorkerNames}
 use Rattle.wh_commands.specs.Durations.{duration_text}
-use Rattle.wh_commands.specs.Objects.{put_all, put_given}
+use Rattle.wh_commands.specs.Objects.{put_given}
 
 -- the Task Queue that the policy sets, otherwise the one that all workers poll
 abbrev pub queue_asked : WorkerNames → Option (List ℕ) → List ℕ
@@ -33,18 +33,22 @@ abbrev pub texts_given : List (List ℕ) → Option Data
 texts_given [] = None
 texts_given (text ∷ texts) = Some (array (items_of (map string (text ∷ texts))))
 
--- the options of a retry policy except the number of attempts
+-- the maximum number of attempts; 0 is not sent, since a server reads a missing one as 0
+abbrev pub attempts_asked : ℕ → Option Data
+attempts_asked attempts = if attempts == 0 then None else Some (number (unsigned attempts))
+
+-- the options of a retry policy
 abbrev pub retry_asked : RetryPolicy → List (List ℕ × Option Data)
 retry_asked retry =
-    (codes "initialInterval", option_map seconds_written retry.initial_interval)
+    (codes "maximumAttempts", attempts_asked retry.maximum_attempts)
+    ∷ (codes "initialInterval", option_map seconds_written retry.initial_interval)
     ∷ (codes "maximumInterval", option_map seconds_written retry.maximum_interval)
     ∷ (codes "backoffCoefficient", option_map float_written retry.backoff_coefficient)
     ∷ (codes "nonRetryableErrorTypes", texts_given retry.non_retryable) ∷ []
 
 -- a retry policy
 abbrev pub retry_written : RetryPolicy → Data
-retry_written retry = object (put_given (retry_asked retry)
-    (put_all ((codes "maximumAttempts", number (unsigned retry.maximum_attempts)) ∷ []) no_members))
+retry_written retry = object (put_given (retry_asked retry) no_members)
 
 -- the timeouts of an activity except the Start-To-Close Timeout
 abbrev pub activity_asked : ActivityPolicy → List (List ℕ × Option Data)

@@ -6,7 +6,7 @@ ghost use Rattle.serde_json.specs.View.{view, members_view};
 ghost use Rattle.wh_commands.specs.Objects.{put_given, with_member};
 ghost use Rattle.wh_commands.specs.Policies as spec;
 ghost use Rattle.wh_commands.specs.Commands.{typed_failure};
-ghost use Rattle.wh_commands.specs.Policies.{activity_asked, child_asked, continued_asked, info_of};
+ghost use Rattle.wh_commands.specs.Policies.{activity_asked, attempts_asked, child_asked, continued_asked, info_of};
 ghost use Rattle.wh_commands.specs.Policies.{float_written, queue_asked, retry_written, seconds_written};
 ghost use Rattle.wh_commands.specs.Policies.{texts_given};
 
@@ -44,6 +44,17 @@ fn put_seconds(
         Some(seconds) => put_duration(members, alloc, name, seconds as u64),
         None => Ok(()),
     }
+}
+
+/// Adds the maximum number of attempts, unless it is 0: that leaves it to the server.
+fn put_attempts(members: &mut Members, alloc: Global, attempts: u32) -> Result<(), AllocError>
+    ensures { OnOk result (members_view members.new.entries
+        ≡ with_member (codes "maximumAttempts") (attempts_asked attempts) (members_view members.old.entries)) }
+{
+    if attempts == 0 {
+        return Ok(());
+    }
+    put(members, alloc, "maximumAttempts", Value::from(attempts))
 }
 
 /// Adds the factor by which intervals grow, if it is set.
@@ -89,13 +100,12 @@ fn texts_given(alloc: Global, texts: &[Text]) -> Result<Option<Value>, AllocErro
     Ok(Some(Value::Array(texts)))
 }
 
-/// Writes a retry policy.
+/// Writes a retry policy. What it does not set is absent.
 pub(crate) fn retry_written(alloc: Global, retry: &RetryPolicy) -> Result<Value, AllocError>
     ensures { IfOk result (λ value. view value ≡ retry_written retry.now) }
 {
     let mut members = Map::new(alloc);
-    let attempts = Value::from(retry.maximum_attempts);
-    put(&mut members, alloc, "maximumAttempts", attempts)?;
+    put_attempts(&mut members, alloc, retry.maximum_attempts)?;
     put_seconds(
         &mut members,
         alloc,
