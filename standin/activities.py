@@ -50,6 +50,7 @@ class Activities:
     def give(self, poll, run, activity):
         """Returns an activity task to a poll."""
         token = activity.token = self.server.tokens.new("activity")
+        activity.given_details = activity.details
         self.by_token[token] = (run, activity, poll.peer)
         self.start(run, activity)
         timeout = milliseconds_of(activity.timeout)

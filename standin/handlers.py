@@ -11,18 +11,18 @@ CALLED_OFF = "called off"
 
 
 class Heard:
-    """The responses to the heartbeats of one task: how many there were, and whether one of them said that the handler
-    should give up, as `cancel` or `gone`."""
+    """The heartbeats of one task: how many labels are printed by the last one, at first those of an earlier attempt, and
+    whether a response said that the handler should give up, as `cancel` or `gone`."""
 
-    def __init__(self):
-        self.beats, self.end = 0, None
+    def __init__(self, printed):
+        self.printed, self.end = printed, None
 
 
 class Till:
     """The activities of `order_worker`: `ChargeCard` returns its input; `PrintLabels` prints a label for each payload
-    of its input, sends a heartbeat after each, with the number of printed labels, and returns their number; one of
-    another type fails. If a heartbeat's response says that the cancellation of the activity is requested, or that its
-    answer is no longer expected, it gives up."""
+    of its input, but for those that an earlier attempt has printed, sends a heartbeat after each, with the number of
+    printed labels, and returns their number; one of another type fails. If a heartbeat's response says that the
+    cancellation of the activity is requested, or that its answer is no longer expected, it gives up."""
 
     kinds = ("ChargeCard", "PrintLabels", "PrintLabels", "Mail")
 
@@ -34,7 +34,8 @@ class Till:
         token = params.get("taskToken")
         if peer.is_disturbed or token not in self.server.activities.by_token:
             return
-        activity, heard = self.server.activities.by_token[token][1], self.tasks.setdefault(token, Heard())
+        activity = self.server.activities.by_token[token][1]
+        heard = self.tasks.setdefault(token, Heard(self.printed_before(activity)))
         if method == BEAT:
             fault = self.beaten(heard, params, result, error)
         elif method.startswith(ANSWER):
@@ -46,9 +47,9 @@ class Till:
 
     def beaten(self, heard, params, result, error):
         """Returns what is wrong with a heartbeat, or an empty text."""
-        wanted, given = [f"{heard.beats + 1}".encode()], payloads_in(params, "details")
+        wanted, given = [f"{heard.printed + 1}".encode()], payloads_in(params, "details")
         fault = f"it beats after {heard.end}" if heard.end else "" if [bytes(one) for one in given] == wanted else f"it beats with {given}"
-        heard.beats += 1
+        heard.printed += 1
         if result and result.get("cancelRequested"):
             heard.end = "cancel"
         elif error is not None and error[0] == NOT_FOUND:
@@ -69,9 +70,14 @@ class Till:
             wanted = ("Failed", CALLED_OFF)
         else:
             wanted = ("Completed", [f"{len(input)}".encode()])
-        if given == wanted and (heard.end or activity.kind != "PrintLabels" or heard.beats == len(input)):
+        if given == wanted and (heard.end or activity.kind != "PrintLabels" or heard.printed == len(input)):
             return ""
-        return f"after {heard.beats} beats it answers {given}, and not {wanted}"
+        return f"after {heard.printed} labels it answers {given}, and not {wanted}"
+
+    def printed_before(self, activity):
+        """Returns how many labels an earlier attempt of an activity has printed."""
+        told = self.values({"details": activity.given_details}, "details") if activity.given_details else []
+        return int(told[0]) if told else 0
 
     @staticmethod
     def values(members, name):

@@ -62,10 +62,10 @@ class Activity:
         self.first_scheduled_at = self.scheduled_at = self.started_at = None
         self.started = None
         self.canceled = False
-        # The number of the event that requests its cancellation, the details of its last heartbeat, and when that came.
+        # The number of the event that requests its cancellation, the details of its last heartbeat, those with which this
+        # attempt was given to a worker, and when the last heartbeat came.
         self.cancel_requested = 0
-        self.details = self.beaten_at = None
-
+        self.details = self.given_details = self.beaten_at = None
 
     def may_be_tried_again(self, failure):
         """Returns whether there are attempts left, and this failure is not one after which there are none."""

@@ -333,10 +333,12 @@ class Worker:
             return self.end(task, "completed", "Completed", {"result": input}, again)
         if kind != "PrintLabels":
             return self.end(task, "completed", "Failed", {"failure": failure("no such activity")}, again)
-        self.beat(task, 0, again)
+        told = task.get("heartbeatDetails", {}).get("payloads", [])
+        self.beat(task, int(base64.b64decode(told[0]["data"])) if told else 0, again)
 
     def beat(self, task, beats, again):
-        """Beats after each payload, and then completes the activity, unless it is to be given up."""
+        """Beats after each payload from the one of this number on, and then completes the activity, unless it is to be given
+        up."""
         params = {"identity": self.options.identity, "taskToken": task["taskToken"]}
         labels = len(task.get("input", {}).get("payloads", []))
         if beats == labels:

@@ -1,14 +1,15 @@
 //! Prints labels of parcels.
 
-ghost use Rattle.std.specs.Prelude.{◌≡◌, ◌++◌, ◌∷◌, [], IfOk};
-ghost use Rattle.order_host.specs.Labels.{ArePrinted, count_payload, stops};
+ghost use Rattle.std.specs.Prelude.{◌≡◌, ◌≤◌, ◌++◌, ◌∷◌, [], IfOk};
+ghost use Rattle.order_host.specs.Labels.{ArePrinted, IsFirstLabel, count_payload, counted, printed_before, stops};
 ghost use Rattle.order_host.specs.declared.labels.LabelStep.TheVariants.{Heard, Printed};
 
 use crate::orders::json;
 use std::alloc::Global;
-use wh_events::{OutOfMemory, Payload};
+use wh_events::{Items, OutOfMemory, Payload};
 use wh_ghost_list::GhostList;
 use wh_heartbeat::{Heartbeat, HeartbeatResponse};
+use wh_json_payloads::json_number;
 
 /// One step of a task that prints labels.
 #[derive(Clone, Copy, PartialEq, Eq, Debug)]
@@ -54,6 +55,50 @@ pub(crate) fn count_payload(alloc: Global, printed: usize) -> Result<Payload, Ou
     json(alloc, format!(in alloc; "{printed}")?)
 }
 
+/// Returns a number that was told, if it is one of these labels, otherwise 0.
+fn counted(told: Option<i64>, labels: usize) -> usize
+    ensures is { result ≡ counted told labels }
+    ensures within { result ≤ labels }
+{
+    let Some(told) = told else {
+        return 0;
+    };
+    match usize::try_from(told) {
+        Ok(printed) if printed <= labels => printed,
+        _ => 0,
+    }
+}
+
+/// Returns how many of these labels an earlier attempt has printed, by the details of its last
+/// heartbeat.
+fn printed_before(
+    alloc: Global,
+    details: &Option<Items<Payload>>,
+    labels: usize,
+) -> Result<usize, OutOfMemory>
+    ensures is { IfOk result (λ printed. printed ≡ printed_before details.now labels) }
+    ensures within { IfOk result (λ printed. printed ≤ labels) }
+{
+    match details {
+        Some(details) => Ok(counted(json_number(alloc, details.get(), 0)?, labels)),
+        None => Ok(0),
+    }
+}
+
+/// Returns the number of the first label to be printed, counted from 0: an earlier attempt has
+/// printed those before it. `OutOfMemory` if there was no memory to read what that one told.
+pub(crate) fn first_label<H: Heartbeat>(
+    alloc: Global,
+    labels: usize,
+    heartbeat: &H,
+) -> Result<usize, OutOfMemory>
+    ensures resumed { IfOk result (IsFirstLabel H.tells labels) }
+    ensures within { IfOk result (λ first. first ≤ labels) }
+{
+    let info = heartbeat.info()?;
+    printed_before(alloc, &info.heartbeat_details, labels)
+}
+
 /// Prints the label of a number. A real label printer would be called here.
 fn print_label(number: usize, steps: &mut GhostList<LabelStep>)
     ensures { steps.new.items ≡ steps.old.items ++ Printed number ∷ [] }
@@ -77,18 +122,22 @@ fn tell<H: Heartbeat>(
     Ok(response)
 }
 
-/// Prints this many labels. Each is followed by a heartbeat with the number of printed labels.
-/// After a response that the activity is to be canceled, or that its task is gone, no more are
-/// printed. `OutOfMemory` if there was no memory for a heartbeat: the labels before it are printed.
+/// Prints the labels from the first one on, up to this many. Each is followed by a heartbeat with
+/// the number of labels that are printed by then. After a response that the activity is to be
+/// canceled, or that its task is gone, no more are printed. `OutOfMemory` if there was no memory for
+/// a heartbeat: the labels before it are printed.
 pub(crate) fn print_labels<H: Heartbeat>(
     alloc: Global,
+    first: usize,
     labels: usize,
     heartbeat: &mut H,
 ) -> Result<Printing, OutOfMemory>
-    ensures { IfOk result (λ printing. ArePrinted H.brings labels printing.end printing.steps.items) }
+    requires { first ≤ labels }
+    ensures { IfOk result (λ printing. ArePrinted H.brings first labels printing.end printing.steps.items) }
 {
     let mut steps = GhostList::new();
-    for number in 0..labels {
+    for printed in 0..labels - first {
+        let number = first + printed;
         print_label(number, &mut steps);
         let response = tell(alloc, number + 1, heartbeat, &mut steps)?;
         if stops(response) {

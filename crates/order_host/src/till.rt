@@ -4,7 +4,7 @@ ghost use Rattle.std.specs.Prelude.{◌≡◌, IfOk, length};
 ghost use Rattle.order_host.specs.Labels.{IsLabelsAnswer, called_off};
 ghost use Rattle.order_host.specs.Till.{till_answer};
 
-use crate::labels::{LabelsEnd, count_payload, print_labels};
+use crate::labels::{LabelsEnd, count_payload, first_label, print_labels};
 use order::receipt;
 use std::alloc::Global;
 use wh_activities::HeartbeatHandler;
@@ -34,16 +34,18 @@ fn called_off(alloc: Global) -> Result<ActivityFailure, OutOfMemory>
     })
 }
 
-/// Prints a label for each payload, and sends a heartbeat after each.
+/// Prints a label for each payload, and sends a heartbeat after each. Those that an earlier attempt
+/// has printed are left out.
 fn run_labels<H: Heartbeat>(
     alloc: Global,
     input: &Items<Payload>,
     heartbeat: &mut H,
 ) -> Result<ActivityAnswer, OutOfMemory>
-    ensures { IfOk result (IsLabelsAnswer H.brings (length input.now)) }
+    ensures { IfOk result (IsLabelsAnswer H.brings H.tells (length input.now)) }
 {
     let labels = input.get().len();
-    let printing = print_labels(alloc, labels, heartbeat)?;
+    let first = first_label(alloc, labels, heartbeat)?;
+    let printing = print_labels(alloc, first, labels, heartbeat)?;
     match printing.end {
         LabelsEnd::Done => {
             let count = count_payload(alloc, labels)?;

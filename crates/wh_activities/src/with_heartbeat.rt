@@ -12,30 +12,32 @@ use wh_tasks::{ActivityAnswer, ActivityHandler, ActivityTask};
 /// once.
 pub trait HeartbeatHandler {
     ghost use Rattle.std.specs.Prelude.{Result};
-    ghost use Rattle.wh_activities.specs.WithHeartbeat.{Brings};
+    ghost use Rattle.wh_activities.specs.WithHeartbeat.{Brings, Tells};
     ghost use Rattle.wh_events.specs.declared.memory.OutOfMemory.{OutOfMemory};
     ghost use Rattle.wh_tasks.specs.Source.{SameMay};
     ghost use Rattle.wh_tasks.specs.declared.source.ActivityTask.{ActivityTask};
     ghost use Rattle.wh_tasks.specs.declared.source.ActivityAnswer.{ActivityAnswer};
 
-    /// Which answers a task may get, by the responses that heartbeats may get. No call changes it.
-    ghost may: { Self → Brings → ActivityTask → ActivityAnswer → Type 0 };
+    /// Which answers a task may get, by the responses that heartbeats may get, and by the info that
+    /// a handler may get of a task. No call changes it.
+    ghost may: { Self → Brings → Tells → ActivityTask → ActivityAnswer → Type 0 };
 
-    /// How one run of a task may change the handler, by the responses that heartbeats may get and its
-    /// result. A handler that leaves it out says nothing of it.
-    ghost runs: { Self → Brings → ActivityTask → Result ActivityAnswer OutOfMemory → Self → Type 0 } = { λ old brings task result new. Unit {0} };
+    /// How one run of a task may change the handler, by these and its result. A handler that leaves
+    /// it out says nothing of it.
+    ghost runs: { Self → Brings → Tells → ActivityTask → Result ActivityAnswer OutOfMemory → Self → Type 0 } = { λ old brings tells task result new. Unit {0} };
 
-    /// Runs the task and returns its answer. If a response was that the activity is to be canceled,
-    /// the source answers a failure as canceled. Returns `OutOfMemory` if there was no memory. The
-    /// task then gets no answer.
+    /// Runs the task and returns its answer. With the heartbeat's `info` it can go on where an
+    /// earlier attempt was. If a response was that the activity is to be canceled, the source
+    /// answers a failure as canceled. Returns `OutOfMemory` if there was no memory. The task then
+    /// gets no answer.
     fn run<H: Heartbeat>(
         &mut self,
         task: &ActivityTask,
         heartbeat: &mut H,
     ) -> Result<ActivityAnswer, OutOfMemory>
-        ensures once { runs self.old H.brings task.now result self.new }
-        ensures answer { IfOk result (λ answer. may self.old H.brings task.now answer) }
-        ensures may { SameMay (may self.old H.brings) (may self.new H.brings) };
+        ensures once { runs self.old H.brings H.tells task.now result self.new }
+        ensures answer { IfOk result (λ answer. may self.old H.brings H.tells task.now answer) }
+        ensures may { SameMay (may self.old H.brings H.tells) (may self.new H.brings H.tells) };
 }
 
 /// A handler with its heartbeat, as an `ActivityHandler` for a worker: the handler runs once for
@@ -49,9 +51,9 @@ pub struct WithHeartbeat<B, H> {
 }
 
 impl<B: HeartbeatHandler, H: Heartbeat> ActivityHandler for WithHeartbeat<B, H> {
-    ghost may = { λ with_heartbeat. B.may with_heartbeat.handler H.brings };
+    ghost may = { λ with_heartbeat. B.may with_heartbeat.handler H.brings H.tells };
 
-    ghost runs = { λ old task result new. B.runs old.handler H.brings task result new.handler };
+    ghost runs = { λ old task result new. B.runs old.handler H.brings H.tells task result new.handler };
 
     fn run(&mut self, task: &ActivityTask) -> Result<ActivityAnswer, OutOfMemory> {
         self.handler.run(task, &mut self.heartbeat)

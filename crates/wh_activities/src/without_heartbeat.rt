@@ -14,9 +14,9 @@ pub struct WithoutHeartbeat<A> {
 }
 
 impl<A: ActivityHandler> HeartbeatHandler for WithoutHeartbeat<A> {
-    ghost may = { λ silent brings. A.may silent.handler };
+    ghost may = { λ silent brings tells. A.may silent.handler };
 
-    ghost runs = { λ old brings task result new. A.runs old.handler task result new.handler };
+    ghost runs = { λ old brings tells task result new. A.runs old.handler task result new.handler };
 
     fn run<H: Heartbeat>(
         &mut self,

@@ -4,7 +4,7 @@ use serde_json::Value;
 use std::alloc::Global;
 use wh_events::Text;
 use wh_ghost_list::GhostList;
-use wh_heartbeat::ActivityCell;
+use wh_heartbeat::{ActivityCell, ActivityInfo};
 use wh_responses::QueryPoll;
 use wh_rpc::{CallFault, Outcome};
 
@@ -52,8 +52,8 @@ pub trait Connection {
     /// Writes a line about a task, with the time.
     fn log(&self, what: &str);
 
-    /// Notes in a worker's cell that the activity task of the token now runs.
-    fn begin_activity(&self, cell: &ActivityCell, token: &Text);
+    /// Notes in a worker's cell that the activity task of the token now runs, and its info.
+    fn begin_activity(&self, cell: &ActivityCell, token: &Text, info: ActivityInfo);
 
     /// Returns whether, by the worker's cell, the response to a heartbeat of the activity task of
     /// the token said that the activity is to be canceled.

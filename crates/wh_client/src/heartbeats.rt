@@ -10,6 +10,7 @@ use crate::connection::Connection;
 use crate::requests::Request;
 use wh_commands::WorkerNames;
 use wh_events::{OutOfMemory, Payload, Text};
+use wh_heartbeat::ActivityInfo;
 use wh_requests::{activity_canceled, activity_failed, activity_heartbeat};
 use wh_responses::is_cancel_requested;
 
@@ -33,11 +34,11 @@ pub fn record_heartbeat<L: Connection>(
 }
 
 impl<L: Connection> Client<'_, L> {
-    /// Notes that the activity task of the token now runs, if the worker's handler may send
-    /// heartbeats.
-    pub fn begin_activity(&self, token: &Text) {
+    /// Notes that the activity task of the token now runs, with its info, if the worker's handler
+    /// may send heartbeats.
+    pub fn begin_activity(&self, token: &Text, info: ActivityInfo) {
         if let Some(cell) = self.cell {
-            self.connection.begin_activity(cell, token);
+            self.connection.begin_activity(cell, token, info);
         }
     }
 

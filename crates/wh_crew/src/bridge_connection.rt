@@ -8,7 +8,7 @@ use std::time::{Clock, Duration};
 use wh_client::Connection;
 use wh_events::Text;
 use wh_ghost_list::GhostList;
-use wh_heartbeat::ActivityCell;
+use wh_heartbeat::{ActivityCell, ActivityInfo};
 use wh_query_desk::QueryQueue;
 use wh_responses::QueryPoll;
 use wh_rpc::{CallFault, Caller, Outcome};
@@ -67,8 +67,8 @@ impl<R: Wait + Clock + Eprint, C: Caller> Connection for BridgeConnection<'_, R,
         let _ = eprintln!(self.rt; "{seconds} {what}");
     }
 
-    fn begin_activity(&self, cell: &ActivityCell, token: &Text) {
-        cell.begin(self.rt, token);
+    fn begin_activity(&self, cell: &ActivityCell, token: &Text, info: ActivityInfo) {
+        cell.begin(self.rt, token, info);
     }
 
     fn was_canceled(&self, cell: &ActivityCell, token: &Text) -> bool {

@@ -9,7 +9,7 @@ use std::time::Clock;
 use wh_client::{AskFault, Status, record_heartbeat};
 use wh_commands::WorkerNames;
 use wh_events::{OutOfMemory, Payload};
-use wh_heartbeat::{ActivityCell, Heartbeat, HeartbeatResponse};
+use wh_heartbeat::{ActivityCell, ActivityInfo, Heartbeat, HeartbeatResponse};
 use wh_query_desk::QueryQueue;
 use wh_rpc::Caller;
 
@@ -34,7 +34,8 @@ fn response_of(heard: Result<bool, AskFault>) -> Result<HeartbeatResponse, OutOf
 
 /// Sends the heartbeats of a live worker's handler: each is a call of `RecordActivityTaskHeartbeat`
 /// for the activity task that the worker runs, over the calls of its host. If no such task is
-/// known, because there was no memory to note it, nothing is sent, and the response is `Unheard`.
+/// known, because there was no memory to note it, nothing is sent, the response is `Unheard`, and
+/// the info is `OutOfMemory`.
 #[derive(Drop)]
 pub struct LiveHeartbeat<'a, R, C> {
     rt: &'a R,
@@ -63,6 +64,8 @@ impl<'a, R, C> LiveHeartbeat<'a, R, C> {
 impl<R: Wait + Clock + Eprint, C: Caller> Heartbeat for LiveHeartbeat<'_, R, C> {
     ghost brings = { λ details response. Unit {0} };
 
+    ghost tells = { λ info. Unit {0} };
+
     fn send(&mut self, details: &[Payload]) -> Result<HeartbeatResponse, OutOfMemory> {
         let Some(token) = self.cell.token(self.rt)? else {
             return Ok(HeartbeatResponse::Unheard);
@@ -79,5 +82,12 @@ impl<R: Wait + Clock + Eprint, C: Caller> Heartbeat for LiveHeartbeat<'_, R, C> 
             self.cell.note_cancel(self.rt, &token);
         }
         Ok(response)
+    }
+
+    fn info(&self) -> Result<ActivityInfo, OutOfMemory> {
+        match self.cell.info(self.rt)? {
+            Some(info) => Ok(info),
+            None => Err(OutOfMemory),
+        }
     }
 }

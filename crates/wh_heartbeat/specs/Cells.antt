@@ -1,10 +1,11 @@
--- The activity task that a worker runs, and whether it is to be canceled.
+-- The activity task that a worker runs, its info, and whether it is to be canceled.
 use Rattle.std.specs.Prelude.{ℕ, List, Bool, true, false, ◌&&◌, Option, Some, None, bytes_eq, if◌then◌else◌}
+use Rattle.wh_heartbeat.specs.declared.activity_info.ActivityInfo.{ActivityInfo}
 use Rattle.wh_heartbeat.specs.declared.cell.RunningActivity.{RunningActivity}
 
--- the task of the token, which is not to be canceled so far
-abbrev pub begun : List ℕ → RunningActivity
-begun token = record { token = token; is_canceled = false }
+-- the task of the token, with this info, which is not to be canceled so far
+abbrev pub begun : List ℕ → ActivityInfo → RunningActivity
+begun token info = record { token = token; is_canceled = false; info = info }
 
 -- there is a task, it is the one of the token, and is to be canceled
 abbrev pub was_canceled : Option RunningActivity → List ℕ → Bool

@@ -2,6 +2,7 @@
 
 ghost use Rattle.std.specs.Prelude.{IfOk};
 
+use crate::activity_info::ActivityInfo;
 use wh_events::{OutOfMemory, Payload};
 
 /// The response to a heartbeat.
@@ -26,29 +27,49 @@ pub enum HeartbeatResponse {
 pub trait Heartbeat {
     ghost use Rattle.std.specs.Prelude.{List};
     ghost use Rattle.wh_events.specs.declared.event.Payload.{Payload};
+    ghost use Rattle.wh_heartbeat.specs.declared.activity_info.ActivityInfo.{ActivityInfo};
     ghost use Rattle.wh_heartbeat.specs.declared.heartbeat.HeartbeatResponse.{HeartbeatResponse};
 
     /// Which responses a heartbeat with these details may get.
     ghost brings: { List Payload → HeartbeatResponse → Type 0 };
+
+    /// Which info a handler may get of a task.
+    ghost tells: { ActivityInfo → Type 0 };
 
     /// Sends a heartbeat and returns the response. The server may pass the details to a later
     /// attempt. Returns `OutOfMemory` if there was no memory for the call. Nothing was sent then,
     /// and the handler can send another heartbeat.
     fn send(&mut self, details: &[Payload]) -> Result<HeartbeatResponse, OutOfMemory>
         ensures { IfOk result (brings details.now) };
+
+    /// Returns what the response to the poll said of the task that runs: which attempt it is, the
+    /// details of the last heartbeat of an earlier attempt, with which a handler can go on where
+    /// that one was, and the times. Returns `OutOfMemory` if there was no memory for a copy, or for
+    /// the info when the task came. A handler that then returns `OutOfMemory` too leaves the task
+    /// to a later attempt.
+    fn info(&self) -> Result<ActivityInfo, OutOfMemory>
+        ensures { IfOk result tells };
 }
 
-/// Sends no heartbeats, for tasks that came from no server: each response is `GoOn`.
+/// Sends no heartbeats, for tasks that came from no server: each response is `GoOn`, and each task
+/// is a first attempt of which no times are told.
 #[derive(Drop)]
 pub struct NoHeartbeat;
 
 impl Heartbeat for NoHeartbeat {
     ghost use Rattle.std.specs.Prelude.{◌≡◌};
+    ghost use Rattle.wh_heartbeat.specs.Infos.{first_attempt};
     ghost use Rattle.wh_heartbeat.specs.declared.heartbeat.HeartbeatResponse.TheVariants.{GoOn};
 
     ghost brings = { λ details response. response ≡ GoOn };
 
+    ghost tells = { λ info. info ≡ first_attempt };
+
     fn send(&mut self, _details: &[Payload]) -> Result<HeartbeatResponse, OutOfMemory> {
         Ok(HeartbeatResponse::GoOn)
+    }
+
+    fn info(&self) -> Result<ActivityInfo, OutOfMemory> {
+        Ok(ActivityInfo::of_first_attempt())
     }
 }

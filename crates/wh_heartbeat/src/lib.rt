@@ -1,9 +1,11 @@
 //! Heartbeats of activities: a handler sends them while its activity runs, and gets a response to
-//! each.
+//! each. Through them it also learns which attempt it is, and what an earlier one told last.
 #![tactic(auto)]
 
+mod activity_info;
 mod cell;
 mod heartbeat;
 
+pub use activity_info::{ActivityInfo, ActivityTimes};
 pub use cell::ActivityCell;
 pub use heartbeat::{Heartbeat, HeartbeatResponse, NoHeartbeat};

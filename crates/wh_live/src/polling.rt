@@ -211,12 +211,13 @@ fn open_activity<L: Connection>(
         id: activity_id,
         activity,
         input,
+        info,
     } = polled;
+    client.begin_activity(&token, info);
     let key = run.try_copy()?;
     let what = activity.try_copy()?;
     let mut opened = OpenTask::new(client.allocator(), id, token, key);
     opened.what = what;
-    client.begin_activity(&opened.token);
     let task = ActivityTask {
         name: opened.name,
         run,

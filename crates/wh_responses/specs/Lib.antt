@@ -3,3 +3,4 @@ pub mod Served
 pub mod Refusals
 pub mod Completions
 pub mod Heartbeats
+pub mod Times

@@ -1,10 +1,12 @@
 -- What responses mean.
-use Rattle.std.specs.Prelude.{ℕ, List, [], ◌∷◌, codes, map, Option, Some, None, option_map}
+use Rattle.std.specs.Prelude.{ℕ, List, [], ◌∷◌, codes, map, max, Option, Some, None, option_map}
 use Rattle.std.specs.Result.{result_ok}
 use Rattle.serde_json.specs.Data.{Data, Members, no_members, member}
 use Rattle.serde_json.specs.Find.{as_object}
 use Rattle.serde_json.specs.View.{view}
+use Rattle.wh_events.specs.declared.event.Payload.{Payload}
 use Rattle.wh_events.specs.declared.key.RunKey.{RunKey}
+use Rattle.wh_heartbeat.specs.declared.activity_info.ActivityInfo.{ActivityInfo}
 use Rattle.wh_json.specs.Fields.{field, text_of, number_of, list_in}
 use Rattle.wh_json.specs.Markers.{some_text}
 use Rattle.wh_json.specs.Payloads.{payloads_at}
@@ -17,6 +19,7 @@ use Rattle.wh_responses.specs.declared.response.HistoryPage.{HistoryPage}
 use Rattle.wh_responses.specs.declared.response.PolledTask.{PolledTask}
 use Rattle.wh_responses.specs.declared.response.WorkflowPoll.{WorkflowPoll}
 use Rattle.wh_responses.specs.declared.response.WorkflowPoll.TheVariants as workflow
+use Rattle.wh_responses.specs.Times.{times_in}
 
 -- ---- Parts
 
@@ -155,6 +158,22 @@ workflow_poll d = poll_of_token d (token_in d)
 unfoldable pub activity_type : Data → Option (List ℕ)
 activity_type d = needed (field (codes "name") (field (codes "activityType") (Some d)))
 
+-- the number of an attempt, counted from 1; it is the first one if a server omits it
+abbrev pub attempt_in : Option Data → Option ℕ
+attempt_in value = option_map (λ attempt. max attempt 1) (number_or_one value)
+
+-- the details of a heartbeat, if there are any
+abbrev pub details_in : Option Data → Option (Option (List Payload))
+details_in None = Some None
+details_in (Some d) = option_map Some (result_ok (payloads_at 0 (Some d)))
+
+-- which attempt it is, the details of the last heartbeat of an earlier one, and the times
+unfoldable pub info_in : Data → Option ActivityInfo
+info_in d = do
+  attempt ← attempt_in (field (codes "attempt") (Some d))
+  details ← details_in (field (codes "heartbeatDetails") (Some d))
+  Some (record { attempt = attempt; heartbeat_details = details; times = times_in d })
+
 -- the task of a token
 unfoldable pub activity_in : List ℕ → Data → Option PolledActivity
 activity_in token d = do
@@ -162,7 +181,8 @@ activity_in token d = do
   id ← needed (field (codes "activityId") (Some d))
   activity ← activity_type d
   input ← result_ok (payloads_at 0 (field (codes "input") (Some d)))
-  Some (record { token = token; run = run; id = id; activity = activity; input = input })
+  info ← info_in d
+  Some (record { token = token; run = run; id = id; activity = activity; input = input; info = info })
 
 -- a task, if it could be read
 abbrev pub activity_or_unreadable : Option PolledActivity → ActivityPoll

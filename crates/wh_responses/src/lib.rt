@@ -8,6 +8,7 @@ mod heartbeat;
 pub mod laws;
 mod refusals;
 mod response;
+mod times;
 
 pub use completion::is_discarded;
 pub use heartbeat::is_cancel_requested;

@@ -10,9 +10,11 @@ ghost use Rattle.wh_commands.specs.ReadBack.{text_or_empty};
 ghost use Rattle.wh_responses.specs.Responses as spec;
 ghost use Rattle.wh_responses.specs.Responses.{page_seen, poll_seen, task_seen};
 
+use crate::times::times_in;
 use serde_json::{Map, Value};
 use std::alloc::Global;
 use wh_events::{Items, OutOfMemory, Payload, RunKey, Text};
+use wh_heartbeat::ActivityInfo;
 use wh_json::{ReadFault, field, number_of, payloads_at, text_of};
 
 /// A page of a run's history.
@@ -77,6 +79,8 @@ pub struct PolledActivity {
     pub activity: Text,
     /// The input of the activity.
     pub input: Items<Payload>,
+    /// Which attempt it is, the details of an earlier one, and the times of the task.
+    pub info: ActivityInfo,
 }
 
 /// What a response to `PollActivityTaskQueue` means.
@@ -312,13 +316,13 @@ pub fn workflow_poll(alloc: Global, value: Value) -> Result<WorkflowPoll, OutOfM
     }
 }
 
-/// Reads the input of an activity.
-fn input_in(alloc: Global, value: Option<&Value>) -> Result<Option<Items<Payload>>, OutOfMemory>
-    ensures { IfOk result (λ input. input
+/// Reads payloads, none if they are missing.
+fn payloads_in(alloc: Global, value: Option<&Value>) -> Result<Option<Items<Payload>>, OutOfMemory>
+    ensures { IfOk result (λ payloads. payloads
         ≡ result_ok (payloads_at 0 (option_map (λ v. view v.now) value.entry))) }
 {
     match payloads_at(alloc, 0, value) {
-        Ok(input) => Ok(Some(Items::new(input))),
+        Ok(payloads) => Ok(Some(Items::new(payloads))),
         Err(ReadFault::OutOfMemory) => Err(OutOfMemory),
         Err(_) => Ok(None),
     }
@@ -331,6 +335,47 @@ fn activity_type(alloc: Global, value: &Value) -> Result<Option<Text>, OutOfMemo
 {
     let named = field(Some(value), "activityType");
     needed(alloc, field(named, "name"))
+}
+
+/// Returns the number of an attempt, 1 if it is missing or 0.
+fn attempt_in(value: Option<&Value>) -> Option<u64>
+    ensures { result ≡ spec.attempt_in (option_map (λ v. view v.now) value.entry) }
+{
+    Some(u64::max(number_or_one(value)?, 1))
+}
+
+/// Reads the details of a heartbeat, if there are any. The outer `None` stands for malformed ones.
+fn details_in(
+    alloc: Global,
+    value: Option<&Value>,
+) -> Result<Option<Option<Items<Payload>>>, OutOfMemory>
+    ensures { IfOk result (λ details. details ≡ spec.details_in (option_map (λ v. view v.now) value.entry)) }
+{
+    let Some(value) = value else {
+        return Ok(Some(None));
+    };
+    match payloads_in(alloc, Some(value))? {
+        Some(details) => Ok(Some(Some(details))),
+        None => Ok(None),
+    }
+}
+
+/// Reads what a response says of an activity task beside what is to be done.
+#[tactic(auto, unfolding(crate::specs::Responses::info_in))]
+fn info_in(alloc: Global, value: &Value) -> Result<Option<ActivityInfo>, OutOfMemory>
+    ensures { IfOk result (λ info. info ≡ spec.info_in (view value.now)) }
+{
+    let Some(attempt) = attempt_in(field(Some(value), "attempt")) else {
+        return Ok(None);
+    };
+    let Some(heartbeat_details) = details_in(alloc, field(Some(value), "heartbeatDetails"))? else {
+        return Ok(None);
+    };
+    Ok(Some(ActivityInfo {
+        attempt,
+        heartbeat_details,
+        times: times_in(value),
+    }))
 }
 
 /// Reads the activity task of a token.
@@ -351,7 +396,10 @@ fn activity_in(
     let Some(activity) = activity_type(alloc, value)? else {
         return Ok(None);
     };
-    let Some(input) = input_in(alloc, field(Some(value), "input"))? else {
+    let Some(input) = payloads_in(alloc, field(Some(value), "input"))? else {
+        return Ok(None);
+    };
+    let Some(info) = info_in(alloc, value)? else {
         return Ok(None);
     };
     Ok(Some(PolledActivity {
@@ -360,6 +408,7 @@ fn activity_in(
         id,
         activity,
         input,
+        info,
     }))
 }
 

@@ -8,5 +8,5 @@ use Rattle.wh_responses.proofs.response.activity_in.Goals as goal
 pub returns : goal.returns
 unfolding run_in field
 returns c =
-    sym (activity_made c.args.token (view c.args.value.now) c.in-Some.run' c.in-Some-2.id c.in-Some-3.activity c.in-Some-4.input
-    (search rules) (search rules) (search rules) (search rules))
+    sym (activity_made c.args.token (view c.args.value.now) c.in-Some.run' c.in-Some-2.id c.in-Some-3.activity c.in-Some-4.input c.in-Some-5.info
+    (search rules) (search rules) (search rules) (search rules) (search rules))
