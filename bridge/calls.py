@@ -22,6 +22,8 @@ from task_counts import TaskCounts
 # The server answers a poll without a task within a minute.
 POLL_SECONDS = 70
 CALL_SECONDS = 10
+# How long a heartbeat waits for its response. It is made once, since a handler waits meanwhile, and its next one tells more.
+HEARTBEAT, HEARTBEAT_SECONDS = "RecordActivityTaskHeartbeat", 5
 # How long the answer of an activity is tried: until its timeout, and a minute at least; after a stop no longer than that.
 ACTIVITY_SECONDS = 60
 # The waits before a call is made again: the first one, and the longest of a poll, of an activity's answer, of others.
@@ -58,6 +60,7 @@ LOSSES = {
     "RespondActivityTask": "the answer is lost, and the activity times out",
     "RespondQueryTask": "the answer is lost",
     "ShutdownWorker": "the sticky queue is not given up",
+    HEARTBEAT: "the heartbeat is lost",
 }
 
 Error = Tuple[int, str]
@@ -296,7 +299,10 @@ class Calls:
     # Other calls.
 
     def insist(self, method: str, request: Any, params: Dict[str, Any]) -> Outcome:
-        """Makes any other call, and retries it for a while after each code that may pass."""
+        """Makes any other call, and retries it for a while after each code that may pass. A heartbeat is not retried."""
+        if method == HEARTBEAT:
+            result, error = self.ask(method, request, HEARTBEAT_SECONDS)
+            return result, error and self.told(method, "", error, None)
         of_activity, token = method.startswith("RespondActivityTask"), params.get("taskToken")
         name, until = self.tokens.of(token) if of_activity else ("", time.monotonic() + CALL_SECONDS)
         passing = PASSING_OF_ACTIVITIES if of_activity else PASSING

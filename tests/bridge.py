@@ -106,7 +106,7 @@ def by_token(message, context, count):
 
 
 POLL = {"namespace": "default", "taskQueue": {"name": "q"}, "identity": "me"}
-END = "RespondActivityTask"
+END, HEARTBEAT = "RespondActivityTask", "RecordActivityTaskHeartbeat"
 
 
 def answer_to(token):
@@ -421,6 +421,32 @@ def answers_of_activities():
         bridge.talk.settimeout(60)
         same("outcomes", [outcome(one) for _, one in sorted(bridge.all(len(tokens)).items())], wanted)
         same("more than ten seconds", time.monotonic() - begun > 12, True)
+        bridge.done()
+
+
+def heartbeats_refused():
+    """A heartbeat is made once, whatever its code, so that it does not hold its handler up."""
+    codes = [1, 2, 4, 5, 7, 8, 10, 13, 14, 16]
+    tokens = [f"{code} 1 no" for code in codes]
+    with Server({HEARTBEAT: by_token}) as server, Bridge(server.port) as bridge:
+        same("outcome", bridge.answered(HEARTBEAT, {"taskToken": base64_of("2 0 no")}), {})
+        begun = time.monotonic()
+        for number, token in enumerate(tokens):
+            bridge.ask(number, HEARTBEAT, {"taskToken": base64_of(token)})
+        wanted = [(code, f"{HEARTBEAT}: no; the heartbeat is lost") for code in codes]
+        same("outcomes", [outcome(one) for _, one in sorted(bridge.all(len(tokens)).items())], wanted)
+        same("at once", time.monotonic() - begun < 3, True)
+        same("calls", server.calls[HEARTBEAT], 1 + len(tokens))
+        bridge.done()
+
+
+def heartbeat_without_a_response():
+    """A heartbeat waits five seconds for its response, and no longer."""
+    with Server({HEARTBEAT: hang}) as server, Bridge(server.port) as bridge:
+        begun = time.monotonic()
+        same("code", bridge.answered(HEARTBEAT, {"taskToken": base64_of("token")})[0], 4)
+        same("four to eight seconds", 4 < time.monotonic() - begun < 8, True)
+        same("calls", server.calls[HEARTBEAT], 1)
         bridge.done()
 
 
@@ -1128,6 +1154,7 @@ def packages_that_are_missing():
 TRIES = [
     answers_of_activities,
     answers_not_for_long,
+    heartbeat_without_a_response,
     server_away_and_back,
     response_too_large,
     poll_with_a_task,
@@ -1145,6 +1172,7 @@ TRIES = [
     answers_tried_again,
     answer_that_carries_over,
     answers_refused,
+    heartbeats_refused,
     history_refused,
     answer_too_large,
     requests_that_are_wrong,
