@@ -300,8 +300,8 @@ def answers_refused_twice():
 
 
 def answers_refused():
-    """An answer that gets 4, 5 or 3 is not sent again. 4 is told with its run, and the status is 1; 5 is counted; 3 is told
-    with its run and text, and counted. Each task comes again, and the runs go on."""
+    """An answer that gets 4, 5 or 3 is not sent again. 4 is told with its run, counts as refused, and the status is 1; 5 counts
+    as not found; 3 is told with its run and text, and counts as refused. Each task comes again, and the runs go on."""
     with Room(speed=10) as room:
         room.workflows.milliseconds = 3_000
         runs = [room.start("Nap") for _ in range(3)]
@@ -315,7 +315,7 @@ def answers_refused():
         same("lines", sorted(lines_of(said)), wanted)
         same("answers", room.count(ANSWER), 3 * 3)
         found = counts_in(said)
-        same("counts", [found["not found"], found["refused"]], [1, 1])
+        same("counts", [found["not found"], found["refused"]], [1, 2])
 
 
 def answers_taken_and_lost():
