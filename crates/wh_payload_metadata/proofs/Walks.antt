@@ -1,0 +1,66 @@
+-- The walks through a value, beside the definitions that they follow.
+use Rattle.std.proofs.Common.{◌≡◌, ◌<◌, ◌≤◌, ℕ, zero, suc, List, [], ◌∷◌, ◌++◌, get_or, length, map, arith, Option, Less, Greater, string_bytes, string_cmp, nat_cmp, refl, sym, ap, ◌∙◌}
+use Rattle.std.proofs.lemmas.Cmp.{nat_list_cmp_total}
+use Rattle.std.specs.Cmp.Lexicographic.{slice_cmp}
+use Rattle.std.specs.List.{AllByRecursion}
+use Rattle.std.specs.List.Sorted.{IsStrictlySortedBy}
+use Rattle.std.specs.Map.{keys_of}
+use Rattle.std.specs.Ordering.{ordering_reverse}
+use Rattle.serde_json.specs.Data.{Data, Members, item, member, put, depth, items_depth, members_depth}
+use Rattle.serde_json.specs.View.{view, items_of, items_view, members_view}
+use Rattle.serde_json.proofs.Views.{Entry}
+use Rattle.serde_json.specs.declared.value.Value.{Value}
+use Rattle.wh_json.specs.Fields.{list_of}
+use Rattle.wh_payload_metadata.specs.Payloads.{payloads_of_members, payloads_of_member}
+use Rattle.wh_payload_metadata.specs.Seen.{noted, all_noted}
+use Rattle.wh_payload_metadata.specs.Handed.{with_metadata, each_with_metadata, handed_on, items_handed_on, members_handed_on, member_handed_on}
+
+pub all_noted-append : (ps qs : List Data) (seen : Members) → all_noted (ps ++ qs) seen ≡ all_noted qs (all_noted ps seen)
+all_noted-append [] qs seen = refl
+all_noted-append (p ∷ ps) qs seen = all_noted-append ps qs (noted p seen)
+
+-- what follows a member that was noted
+pub member_noted : (e : Entry) (rest : List Entry) (before after : Members) → after ≡ all_noted (payloads_of_member (string_bytes e.0) (view e.1)) before
+    → all_noted (payloads_of_members (members_view rest)) after ≡ all_noted (payloads_of_members (members_view (e ∷ rest))) before
+member_noted e rest before after is =
+    ap (all_noted (payloads_of_members (members_view rest))) is
+    ∙ sym (all_noted-append (payloads_of_member (string_bytes e.0) (view e.1)) (payloads_of_members (members_view rest)) before)
+
+pub list_of-items_view : (vs : List Value) → list_of (items_view vs) ≡ map view vs
+list_of-items_view [] = refl
+list_of-items_view (v ∷ vs) = ap (λ ds. view v ∷ ds) (list_of-items_view vs)
+
+pub each_with_metadata-items_view : (seen : Members) (vs : List Value)
+    → each_with_metadata seen (items_view vs) ≡ items_of (map (λ v. with_metadata seen (view v)) vs)
+each_with_metadata-items_view seen [] = refl
+each_with_metadata-items_view seen (v ∷ vs) = ap (item (with_metadata seen (view v))) (each_with_metadata-items_view seen vs)
+
+pub items_handed_on-items_view : (seen : Members) (header : Option Data) (vs : List Value)
+    → items_handed_on seen header (items_view vs) ≡ items_of (map (λ v. handed_on seen header (view v)) vs)
+items_handed_on-items_view seen header [] = refl
+items_handed_on-items_view seen header (v ∷ vs) = ap (item (handed_on seen header (view v))) (items_handed_on-items_view seen header vs)
+
+below_middle : (first : Entry) (es : List Entry) (e : Entry) (more : List Entry) → AllByRecursion (λ y. string_cmp first.0 y ≡ Less) (keys_of (es ++ e ∷ more)) → string_cmp first.0 e.0 ≡ Less
+below_middle first [] e more h = h.0
+below_middle first (x ∷ es) e more h = below_middle first es e more h.1
+
+-- a member that is handed on goes last, if its name is above those before it
+pub put_last_handed : (seen : Members) (header : Option Data) (done : List Entry) (e : Entry) (more : List Entry)
+    → IsStrictlySortedBy string_cmp (keys_of (done ++ e ∷ more))
+    → put (string_bytes e.0) (member_handed_on seen header (string_bytes e.0) (view e.1)) (members_handed_on seen header (members_view done))
+    ≡ members_handed_on seen header (members_view (done ++ e ∷ []))
+unfolding IsStrictlySortedBy
+put_last_handed seen header [] e more h = refl
+put_last_handed seen header (first ∷ done) e more h =
+    let above : slice_cmp nat_cmp (string_bytes e.0) (string_bytes first.0) ≡ Greater =
+    nat_list_cmp_total.antisymm (string_bytes e.0) (string_bytes first.0) ∙ ap ordering_reverse (below_middle first done e more h.0) in
+    rw above (ap (member (string_bytes first.0) (member_handed_on seen header (string_bytes first.0) (view first.1))) (put_last_handed seen header done e more h.1))
+
+pub depth-get_or : (vs : List Value) (i : ℕ) (d : Value) → i < length vs → depth (view (get_or vs i d)) ≤ items_depth (items_view vs)
+depth-get_or [] i d h = absurd (omega arith)
+depth-get_or (v ∷ vs) zero d h = omega arith
+depth-get_or (v ∷ vs) (suc i) d h = omega (arith, depth-get_or vs i d (omega arith))
+
+pub depth_within : (done : List Entry) (e : Entry) (more : List Entry) → depth (view e.1) ≤ members_depth (members_view (done ++ e ∷ more))
+depth_within [] e more = omega arith
+depth_within (first ∷ done) e more = omega (arith, depth_within done e more)

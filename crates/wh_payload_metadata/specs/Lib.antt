@@ -1,0 +1,4 @@
+pub mod Payloads
+pub mod Seen
+pub mod Handed
+pub mod Laws

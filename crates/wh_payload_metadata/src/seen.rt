@@ -1,0 +1,87 @@
+//! What was seen of the payloads of a run.
+
+ghost use Rattle.std.specs.Prelude.{◌≡◌, IfOk, None, OnOk};
+ghost use Rattle.serde_json.specs.Data.{no_members};
+ghost use Rattle.serde_json.specs.View.{view};
+ghost use Rattle.serde_json.specs.Events.{members_len};
+ghost use Rattle.wh_payload_metadata.specs.Payloads.{payloads_of};
+ghost use Rattle.wh_payload_metadata.specs.Seen.{all_noted, started_header, header_after, metadata_seen, header_seen, is_nothing};
+ghost use Rattle.wh_payload_metadata.specs.Handed.{handed_on};
+
+use crate::handing::hand_on;
+use crate::header::started_header;
+use crate::noting::note;
+use serde_json::{Map, Value};
+use std::alloc::{AllocError, Global};
+
+/// What was seen of a run: the metadata of payloads that have more than an encoding, and the header
+/// of the run's start. Other payloads take no memory.
+#[derive(Drop)]
+pub struct SeenPayloads {
+    metadata: Map<String, Value>,
+    header: Option<Value>,
+}
+
+impl SeenPayloads {
+    /// Nothing was seen.
+    pub fn new(alloc: Global) -> SeenPayloads
+        ensures metadata { metadata_seen result ≡ no_members }
+        ensures header { header_seen result ≡ None }
+    {
+        SeenPayloads {
+            metadata: Map::new(alloc),
+            header: None,
+        }
+    }
+
+    /// Returns how many payloads were seen that have different data, and metadata with more than an
+    /// encoding.
+    pub fn len(&self) -> usize
+        ensures { result ≡ members_len (metadata_seen self.now) }
+    {
+        self.metadata.len()
+    }
+
+    /// Returns whether nothing was seen: neither such metadata nor a header.
+    pub fn is_empty(&self) -> bool
+        ensures { result ≡ is_nothing (metadata_seen self.now) (header_seen self.now) }
+    {
+        match &self.header {
+            Some(_) => false,
+            None => self.len() == 0,
+        }
+    }
+
+    /// Notes the payloads of a value that came. Of the same data the metadata that come last are
+    /// kept. `AllocError` if there was no memory: then some may have been noted.
+    pub fn keep_payloads(&mut self, alloc: Global, value: &Value) -> Result<(), AllocError>
+        ensures metadata { OnOk result (metadata_seen self.new
+            ≡ all_noted (payloads_of (view value.now)) (metadata_seen self.old)) }
+        ensures header { header_seen self.new ≡ header_seen self.old }
+    {
+        note(alloc, &mut self.metadata, value)
+    }
+
+    /// Keeps the header of the run's start, if a page of history begins with it. `AllocError` if
+    /// there was no memory: then nothing has changed.
+    pub fn keep_header(&mut self, page: &Value) -> Result<(), AllocError>
+        ensures header { OnOk result (header_seen self.new
+            ≡ header_after (started_header (view page.now)) (header_seen self.old)) }
+        ensures metadata { metadata_seen self.new ≡ metadata_seen self.old }
+    {
+        if let Some(header) = started_header(page) {
+            self.header = Some(header.clone()?);
+        }
+        Ok(())
+    }
+
+    /// Returns a request with what was seen: each of its payloads has the metadata that were seen
+    /// last with its data, if they name its encoding, and each command that schedules an activity or
+    /// starts a child has the header. `AllocError` if there was no memory.
+    pub fn hand_on(&self, alloc: Global, request: &Value) -> Result<Value, AllocError>
+        ensures { IfOk result (λ v. view v
+            ≡ handed_on (metadata_seen self.now) (header_seen self.now) (view request.now)) }
+    {
+        hand_on(alloc, &self.metadata, self.header.as_ref(), request)
+    }
+}
