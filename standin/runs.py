@@ -13,6 +13,8 @@ class Runs:
     def __init__(self, server):
         self.server = server
         self.all, self.by_id, self.open = [], {}, set()
+        # Whether the payloads of some data come from clients with a codec: two that are encrypted never have the same data.
+        self.are_coded = {}
 
     def start(self, kind, workflow_id, input=None, parent=None, queue=None, continued=None, carried=None):
         """Starts a run, or returns None if one of this id is open."""
@@ -39,10 +41,14 @@ class Runs:
         return next((run for run in reversed(runs) if run_id in (None, run.run_id)), None)
 
     def coded(self, input):
-        """Returns payloads as a client with a codec sends them, if it is one."""
-        if not input or not self.server.troubles.happens("metadata"):
-            return input
-        return {"payloads": [{**one, "metadata": {**one.get("metadata", {}), **OF_CODEC}} for one in input.get("payloads", [])]}
+        """Returns payloads as clients send them, some of which have a codec."""
+        return {"payloads": [self.coded_one(one) for one in input.get("payloads", [])]} if input else input
+
+    def coded_one(self, one):
+        data = one.get("data", "")
+        if data not in self.are_coded:
+            self.are_coded[data] = self.server.troubles.happens("metadata")
+        return {**one, "metadata": {**one.get("metadata", {}), **OF_CODEC}} if self.are_coded[data] else one
 
     # What comes to a run.
 

@@ -1,5 +1,5 @@
 -- What is kept of runs.
-use Rattle.std.specs.Prelude.{ℕ, List, string_bytes, bytes_eq, nat_lt, Option, Some, None, if◌then◌else◌}
+use Rattle.std.specs.Prelude.{ℕ, List, string_bytes, bytes_eq, nat_lt, Option, Some, None, option_map, if◌then◌else◌}
 use Rattle.std.specs.Map.{lookup}
 use Rattle.serde_json.specs.Data.{Data, Members, no_members}
 use Rattle.serde_json.specs.Events.{members_len}
@@ -24,6 +24,11 @@ metadata_in (Some seen) = metadata_seen seen
 abbrev pub header_in : Option SeenPayloads → Option Data
 header_in None = None
 header_in (Some seen) = header_seen seen
+
+-- the name of the run of a task, by the token of the task, if it is kept
+abbrev pub place_of : KeptRuns → List ℕ → Option (List ℕ)
+place_of kept token =
+    option_map (λ place. string_bytes place) (lookup (λ key. bytes_eq token (string_bytes key)) kept.tasks.entries)
 
 -- the metadata of payloads that were seen of a run
 abbrev pub kept_metadata : KeptRuns → List ℕ → Members

@@ -1,11 +1,11 @@
 //! What is kept of runs.
 
-ghost use Rattle.std.specs.Prelude.{◌≡◌, IfOk, None, OnOk, bytes_eq, string_bytes};
+ghost use Rattle.std.specs.Prelude.{◌≡◌, IfOk, None, OnOk, Some, bytes_eq, option_map, string_bytes};
 ghost use Rattle.std.specs.Map.{remove_entry};
 ghost use Rattle.serde_json.specs.Data.{no_members};
 ghost use Rattle.serde_json.specs.View.{view};
 ghost use Rattle.wh_payload_metadata.specs.Seen.{metadata_seen, header_seen, header_after, started_header};
-ghost use Rattle.wh_keeping_calls.specs.Kept.{kept_run, kept_metadata, kept_header, metadata_after, handed_by};
+ghost use Rattle.wh_keeping_calls.specs.Kept.{kept_run, kept_metadata, kept_header, metadata_after, handed_by, place_of};
 
 use lru::LruCache;
 use serde_json::Value;
@@ -131,22 +131,31 @@ impl KeptRuns {
     }
 
     /// Notes the run of a task that a poll brought.
-    pub(crate) fn begin(&mut self, token: &str, name: &str) -> Result<(), AllocError> {
-        let token = String::from_str(self.alloc, token)?;
-        let name = String::from_str(self.alloc, name)?;
-        self.tasks.put(token, name)?;
+    pub(crate) fn begin(&mut self, token: &str, name: &str) -> Result<(), AllocError>
+        ensures place { OnOk result (place_of self.new token.now ≡ Some name.now) }
+        ensures runs { self.new.runs ≡ self.old.runs }
+    {
+        let key = String::from_str(self.alloc, token)?;
+        let place = String::from_str(self.alloc, name)?;
+        self.tasks.put(key, place)?;
         Ok(())
     }
 
-    /// The run of a task that is answered.
-    pub(crate) fn end(&mut self, token: &str) -> Option<String> {
+    /// The run of a task that is answered, which is forgotten with the task.
+    pub(crate) fn end(&mut self, token: &str) -> Option<String>
+        ensures place { option_map (λ place. string_bytes place) result ≡ place_of self.old token.now }
+        ensures runs { self.new.runs ≡ self.old.runs }
+    {
         self.tasks.pop(token)
     }
 
     /// The run of a task that goes on.
-    pub(crate) fn run_of(&self, token: &str) -> Result<Option<String>, AllocError> {
+    pub(crate) fn run_of(&self, token: &str) -> Result<Option<String>, AllocError>
+        ensures { IfOk result (λ found.
+            option_map (λ place. string_bytes place) found ≡ place_of self.now token.now) }
+    {
         match self.tasks.peek(token) {
-            Some(name) => Ok(Some(name.clone()?)),
+            Some(place) => Ok(Some(place.clone()?)),
             None => Ok(None),
         }
     }
