@@ -21,6 +21,7 @@ use wh_crew::{LiveHeartbeat, serve_live};
 use wh_events::OutOfMemory;
 use wh_heartbeat::ActivityCell;
 use wh_host::OpenFault;
+use wh_keeping_calls::KeepingCalls;
 use wh_queryable::Queryable;
 use wh_rpc::Caller;
 
@@ -225,15 +226,8 @@ where
     }
 }
 
-/// Starts to read what the bridge writes, by `listen`, which says whether it could, and serves the
-/// tasks that come by the calls until there are no more: by a host of the sizes of the plan, with a
-/// handler for each worker, which `make` makes, and which sends heartbeats over the same calls for
-/// the activity task that its worker runs. Lines on the standard error begin with the program's
-/// name. Counts are reported and kept as the plan says; if they can't be kept, that is reported,
-/// and the work goes on.
-///
-/// `OutOfMemory` if there was no memory to begin with, or `listen` could not; no call is made then.
-pub fn serve_calls<
+/// Serves the tasks that come by these calls, as [`serve_calls`] does, and keeps no metadata.
+fn serve_over<
     W: Queryable + Send,
     R: Threads + Wait + Clock + Eprint + FileReplacer + AllocGlobal + Sync,
     C: Caller + Sync,
@@ -274,6 +268,55 @@ where
             drop(listen);
             drop(plan);
             Err(fault)
+        }
+    }
+}
+
+/// Starts to read what the bridge writes, by `listen`, which says whether it could, and serves the
+/// tasks that come by the calls until there are no more: by a host of the sizes of the plan, with a
+/// handler for each worker, which `make` makes, and which sends heartbeats over the same calls for
+/// the activity task that its worker runs. The metadata of payloads, and the header of a run's
+/// start, go on with the requests that answer the run's tasks. Lines on the standard error begin
+/// with the program's name. Counts are reported and kept as the plan says; if they can't be kept,
+/// that is reported, and the work goes on.
+///
+/// `OutOfMemory` if there was no memory to begin with, or `listen` could not; no call is made then.
+pub fn serve_calls<
+    W: Queryable + Send,
+    R: Threads + Wait + Clock + Eprint + FileReplacer + AllocGlobal + Sync,
+    C: Caller + Sync,
+    L: FnOnce() -> bool,
+    B: HeartbeatHandler + Send + Drop,
+    M: Fn() -> B,
+>(
+    rt: &R,
+    name: &str,
+    calls: &C,
+    listen: L,
+    make: &M,
+    plan: LivePlan,
+) -> Result<WorkEnd, OutOfMemory>
+where
+    L: Drop,
+    requires sizes { IsConfig plan.config }
+    requires listens { L.IsAlwaysCallable listen }
+    requires makes { M.IsAlwaysCallable make.now }
+    ensures served { IfOk result (λ end. AreServed plan.config plan.options plan.workers end.live) }
+    ensures balanced { IfOk result (λ end. end.live.totals.taken
+        ≡ end.live.totals.completed + end.live.totals.failed + end.live.totals.in_hand) }
+{
+    match KeepingCalls::new(calls, plan.config.cache) {
+        Ok(keeping) => {
+            let end = serve_over::<W, R, KeepingCalls<C>, L, B, M>(
+                rt, name, &keeping, listen, make, plan,
+            );
+            drop(keeping);
+            end
+        }
+        Err(_) => {
+            drop(listen);
+            drop(plan);
+            Err(OutOfMemory)
         }
     }
 }
