@@ -1,10 +1,9 @@
 //! The texts of the report.
 
-use crate::tests::replaying::record_with;
 use std::alloc::Global;
 use std::process::Abort;
 use test_support::{push, repeated, same};
-use wh_events::{EventNo, PlaceFault};
+use wh_events::{EventNo, Items, PlaceFault};
 use wh_json::ReadFault;
 use wh_replay::{Checked, Fault};
 use wh_report::{Format, Record, status_of, write_report};
@@ -119,6 +118,17 @@ A?B: out of memory
 a: ok, 2 tasks: out of memory
 8 files, 0 ok
 ";
+
+/// The record of a file with this line.
+fn record_with(alloc: Global, line: Line) -> Record {
+    Record {
+        line,
+        cause: None,
+        detail: None,
+        difference: None,
+        warnings: Items::new(Vec::new(alloc)),
+    }
+}
 
 fn add(rt: &impl Abort, alloc: Global, records: &mut Vec<Record>, name: &str, verdict: Verdict) {
     let name = text_of(alloc, name).expect(rt, "memory");

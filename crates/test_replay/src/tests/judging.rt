@@ -1,9 +1,9 @@
 //! Which commands a task may give, and whether they match the record.
 
 use crate::tests::cuts::CUTS;
+use crate::tests::lines::replays;
 use crate::tests::places::PLACES;
 use crate::tests::reading::{READ, REFUSED, REFUSED_FIRST};
-use crate::tests::replaying::replays;
 use wh_sample_workflows::{All, Asker, Flood};
 
 /// Commands that match their record or do not, versions of a change, and invalid commands.

@@ -1,6 +1,6 @@
 //! How many commands one task may give, and how they compare with what is recorded.
 
-use crate::tests::replaying::replays;
+use crate::tests::lines::replays;
 use test_support::Scripted;
 
 /// As many commands as one task may give, and more. Those that are not sent count as well.

@@ -1,6 +1,6 @@
 //! What the reader accepts and what it refuses.
 
-use crate::tests::replaying::reads;
+use crate::tests::lines::reads;
 use std::alloc::Global;
 use std::process::Abort;
 use test_support::{bytes_of, row};

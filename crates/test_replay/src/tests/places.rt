@@ -1,6 +1,6 @@
 //! Which events are in place.
 
-use crate::tests::replaying::replays;
+use crate::tests::lines::replays;
 use wh_sample_workflows::All;
 
 /// Events that are not in place, and then events that are, with the result of the task.

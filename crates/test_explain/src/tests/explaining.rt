@@ -3,10 +3,10 @@
 use std::alloc::Global;
 use std::process::Abort;
 use test_support::{Scripted, bytes_of, row, same, with_status};
+use wh_console::Format;
 use wh_events::EventNo;
 use wh_explain::explain;
 use wh_explain_report::{explain_command, line_status, write_explanation};
-use wh_report::Format;
 use wh_sample_workflows::{All, Asker, Nap};
 use wh_view_report::Selection;
 use wh_workflow::Workflow;
