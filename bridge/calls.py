@@ -130,9 +130,10 @@ class Tokens:
         self.lock, self.tasks = threading.Lock(), {}
 
     def add(self, task: Dict[str, Any]) -> None:
-        timeouts = [task[name] for name in ("startToCloseTimeout", "scheduleToCloseTimeout") if name in task]
+        """Notes a task that a poll gave. A server writes a timeout that is not set as 0."""
+        timeouts = [seconds_of(task.get(name, "0s")) for name in ("startToCloseTimeout", "scheduleToCloseTimeout")]
         now = time.monotonic()
-        until = now + max(ACTIVITY_SECONDS, min(map(seconds_of, timeouts), default=0))
+        until = now + max(ACTIVITY_SECONDS, min(filter(None, timeouts), default=0))
         name = f"{task.get('activityType', {}).get('name')} of {run_of(task.get('workflowExecution', {}))}"
         with self.lock:
             if len(self.tasks) >= MANY_TASKS:

@@ -12,6 +12,8 @@ CLOSINGS = {
     "CANCEL_WORKFLOW_EXECUTION": "WorkflowExecutionCanceled",
     "CONTINUE_AS_NEW_WORKFLOW_EXECUTION": "WorkflowExecutionContinuedAsNew",
 }
+# The timeouts of an activity that need not be set, as a server writes those that are not.
+NO_TIMEOUTS = {name: "0s" for name in ("scheduleToCloseTimeout", "scheduleToStartTimeout", "heartbeatTimeout")}
 
 
 def policy_fault(policy):
@@ -173,8 +175,9 @@ class Effects:
         getattr(self, kind.lower())({**attributes, "workflowTaskCompletedEventId": self.completed})
 
     def schedule_activity_task(self, attributes):
-        number = self.run.append("ActivityTaskScheduled", attributes)
-        activity = self.run.activities[number] = Activity(number, attributes)
+        filled = {**NO_TIMEOUTS, **attributes}
+        number = self.run.append("ActivityTaskScheduled", filled)
+        activity = self.run.activities[number] = Activity(number, filled)
         self.server.activities.schedule(self.run, activity)
 
     def request_cancel_activity_task(self, attributes):

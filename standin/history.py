@@ -55,8 +55,8 @@ class Activity:
         self.input = attributes.get("input")
         # What a worker sets, over what a server takes otherwise.
         self.policy = {"initialInterval": "1s", "backoffCoefficient": 2, "maximumInterval": "100s", **attributes.get("retryPolicy", {})}
-        self.whole_timeout = attributes.get("scheduleToCloseTimeout")
-        self.timeout, self.heartbeat = attributes.get("startToCloseTimeout", "60s"), attributes.get("heartbeatTimeout")
+        self.whole_timeout, self.heartbeat = attributes["scheduleToCloseTimeout"], attributes["heartbeatTimeout"]
+        self.timeout = attributes.get("startToCloseTimeout", "60s")
         self.attempt = 1
         self.token = None
         self.first_scheduled_at = self.scheduled_at = self.started_at = None
