@@ -17,7 +17,7 @@ NO_TIMEOUTS = {name: "0s" for name in ("scheduleToCloseTimeout", "scheduleToStar
 
 
 def policy_fault(policy):
-    """Returns why a server refuses a retry policy, or an empty text. One of a single attempt is not looked at."""
+    """Returns why a server refuses a retry policy, or an empty text. A server does not look at one of a single attempt."""
     first, most = (milliseconds_of(policy.get(name, "0s")) for name in ("initialInterval", "maximumInterval"))
     if policy.get("maximumAttempts") == 1:
         return ""

@@ -68,7 +68,7 @@ class Activity:
         self.details = self.given_details = self.beaten_at = None
 
     def may_be_tried_again(self, failure):
-        """Returns whether there are attempts left, and this failure is not one after which there are none."""
+        """Returns whether there are attempts left, and the failure allows one."""
         info, most = failure.get("applicationFailureInfo", {}), self.policy.get("maximumAttempts", 0)
         is_last = info.get("nonRetryable") or info.get("type") in self.policy.get("nonRetryableErrorTypes", [])
         return not (is_last or self.canceled or (most and self.attempt >= most))

@@ -995,7 +995,7 @@ def page_of_readiness():
             same("all are refused", page_of(port, "/ready")[0], 503)
             modes[0] = "empty"
             bridge.answered(TASK, POLL)
-            same("one has succeeded", page_of(port, "/ready"), (200, "polls succeed\n"))
+            same("one has succeeded", page_of(port, "/ready"), (200, "a poll succeeded, or is open for a while\n"))
             modes[0] = "refuse"
             bridge.answered(TASK, POLL)
             same("all are refused again", page_of(port, "/ready")[0], 503)
