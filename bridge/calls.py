@@ -24,17 +24,17 @@ POLL_SECONDS = 70
 CALL_SECONDS = 10
 # How long a heartbeat waits for its response. It is made once, since a handler waits meanwhile, and its next one tells more.
 HEARTBEAT, HEARTBEAT_SECONDS = "RecordActivityTaskHeartbeat", 5
-# How long the answer of an activity is tried: until its timeout, and a minute at least; after a stop no longer than that.
+# How long the answer of an activity is tried: until its timeout, and for a minute at least; after a stop, for a minute at most.
 ACTIVITY_SECONDS = 60
 # The waits before a call is made again: the first one, and the longest of a poll, of an activity's answer, of others.
 FIRST_WAIT, POLL_WAIT, ACTIVITY_WAIT, LONGEST_WAIT = 0.1, 5.0, 5.0, 2.0
-# A poll without a task that lasts less than the first is followed by a pause, of which the second is the longest.
+# After a poll that ends without a task in less than QUICK_SECONDS comes a pause, of LONGEST_PAUSE at most.
 QUICK_SECONDS, LONGEST_PAUSE = 1.0, 1.0
 # A poll that is refused, or hangs, is reported once in so many seconds.
 REPORT_SECONDS = 60
-# How many tasks of activities are known at most without a look for those that are over.
+# Above so many activity tasks, those whose time is over are forgotten.
 MANY_TASKS = 1_000
-# How many messages of polls are kept.
+# How many poll requests are kept parsed.
 MOST_POLLS = 80
 CANCELLED, INVALID, DEADLINE, NOT_FOUND, DENIED, EXHAUSTED = 1, 3, 4, 5, 7, 8
 UNIMPLEMENTED, INTERNAL, UNAVAILABLE, UNAUTHENTICATED = 12, 13, 14, 16
@@ -45,8 +45,8 @@ PASSING = (CANCELLED, 2, EXHAUSTED, 10, 11, INTERNAL, UNAVAILABLE, 15)
 PASSING_OF_ACTIVITIES = (*PASSING, DEADLINE, DENIED, UNAUTHENTICATED)
 # How gRPC says, in C and Go or in Java, that a message is too large: a retry would not help.
 TOO_LARGE = ("larger than max", "exceeds maximum size")
-# The codes of a poll that end the worker once they last, and what to do about each. In passing a proxy gives them, or a server
-# that starts.
+# The codes that end the worker if polls keep getting them, and what to do about each. A proxy, or a server that starts, gives
+# them in passing.
 REFUSALS = {
     INVALID: "check the names of the Task Queue and of the namespace {namespace}",
     NOT_FOUND: "check that {address} has the namespace {namespace}",
@@ -91,7 +91,8 @@ class Pauses:
         self.lock, self.held = threading.Lock(), {}
 
     def next(self, queue: str) -> float:
-        """Returns the next pause: the one before, or twice that if it is over, so that many polls at once are one."""
+        """Returns the next pause: twice the last one, or the last one again while it is not over, so that many polls at once
+        count as one."""
         now = time.monotonic()
         with self.lock:
             pause, since = self.held.get(queue, (FIRST_WAIT / 2, 0))
@@ -101,6 +102,7 @@ class Pauses:
             return pause
 
     def reset(self, queue: str) -> None:
+        """Lets the pauses of a Task Queue begin anew."""
         with self.lock:
             self.held.pop(queue, None)
 
@@ -130,9 +132,10 @@ class Tokens:
         self.lock, self.tasks = threading.Lock(), {}
 
     def add(self, task: Dict[str, Any]) -> None:
-        timeouts = [task[name] for name in ("startToCloseTimeout", "scheduleToCloseTimeout") if name in task]
+        """Notes a task that a poll gave. A server writes a timeout that is not set as 0."""
+        timeouts = [seconds_of(task.get(name, "0s")) for name in ("startToCloseTimeout", "scheduleToCloseTimeout")]
         now = time.monotonic()
-        until = now + max(ACTIVITY_SECONDS, min(map(seconds_of, timeouts), default=0))
+        until = now + max(ACTIVITY_SECONDS, min(filter(None, timeouts), default=0))
         name = f"{task.get('activityType', {}).get('name')} of {run_of(task.get('workflowExecution', {}))}"
         with self.lock:
             if len(self.tasks) >= MANY_TASKS:
@@ -147,6 +150,7 @@ class Tokens:
         return name, max(until, now + ACTIVITY_SECONDS)
 
     def remove(self, token: Any) -> None:
+        """Forgets a task that was answered."""
         with self.lock:
             self.tasks.pop(token, None)
 
@@ -171,6 +175,7 @@ class Calls:
         self.connections.watch(self.is_stopped)
 
     def is_ready(self) -> bool:
+        """Returns whether the bridge goes on, and its polls succeed."""
         return not self.is_stopped.is_set() and self.readiness.is_ready()
 
     def greet(self, longest: float) -> bool:
@@ -219,8 +224,8 @@ class Calls:
         self.counts.add(namespace, method, took, code.name if is_failure else None)
 
     def name_events(self, result: Dict[str, Any], request: Any) -> None:
-        """Gives a name to each type of event that the package does not know, and that is only a number therefore. Reports
-        the first event of a type that a worker may not ignore."""
+        """Gives a name to each type of event that the package does not know and gives as a number. Reports the first event of
+        each such type that a worker may not ignore."""
         for event in result.get("history", {}).get("events", ()):
             kind = event.get("eventType")
             if isinstance(kind, int):
@@ -326,8 +331,8 @@ class Calls:
 
     def told(self, method: str, name: str, error: Error, tried: Optional[float]) -> Error:
         """Returns an error whose text says which call failed, of which activity, for how many seconds it was tried, and what
-        is lost. The host names the run of a workflow task, and takes meaning from texts of the codes 3, 5 and 8; these stay as
-        they are."""
+        is lost. The host names the run of a workflow task, and reads the texts of answers with code 3 or 5, and of messages
+        that are too large; these stay as they are."""
         code, text = error
         if code in (INVALID, NOT_FOUND) and method.startswith("Respond") or any(words in text for words in TOO_LARGE):
             return error

@@ -12,9 +12,9 @@ from typing import Callable, Dict, List, Optional, Tuple
 
 from report import Unusable
 
-# The bounds of the latencies that are told apart, in seconds.
+# The upper bounds of the histograms' buckets, in seconds.
 BOUNDS = (0.01, 0.05, 0.1, 0.5, 1, 2.5, 10, 60)
-# A poll that is open for so many seconds was not refused.
+# A poll that is open for so many seconds counts as accepted.
 OPEN_SECONDS = 5
 # The families of metrics, each with what it counts: of calls, and of polls.
 FAMILIES = {"temporal_request": "Calls that are no polls", "temporal_long_request": "Polls"}
@@ -140,7 +140,7 @@ def listen(address: str, pages: Dict[str, Page]) -> int:
             self.wfile.write(text.encode())
 
         def log_message(self, *_) -> None:
-            """Each request is no line of standard error."""
+            """Writes no line for a request."""
 
     host, _, port = address.rpartition(":")
     host = host.strip("[]")

@@ -31,7 +31,7 @@ CLOSES = {
 }
 # A sticky Task Queue (temporal.api.enums.v1.TaskQueueKind).
 STICKY = 2
-# How many workflow tasks are known at most. Those that are never answered stay, until they are the oldest.
+# How many workflow tasks are known at most. Beyond that the oldest, which was perhaps never answered, is forgotten.
 MOST_OPEN = 1_000
 
 Labels = Tuple[Tuple[str, str], ...]
@@ -105,7 +105,7 @@ class TaskCounts:
         with self.lock:
             of_run: Optional[Labels] = self.open.pop(request.task_token, None)
             name = CLOSES.get(request.commands[-1].command_type) if request.commands else None
-            # An old package does not know what a discarded task is.
+            # An old package has no such field.
             if of_run and name and not getattr(response, "reset_history_event_id", 0):
                 self.counters[name][of_run] += 1
 

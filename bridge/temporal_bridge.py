@@ -44,7 +44,7 @@ os.environ.setdefault("GRPC_VERBOSITY", "NONE")  # This program reports each err
 # How often gRPC looks, while no call is open, whether a connection is there again: every five seconds by default.
 os.environ.setdefault("GRPC_CLIENT_CHANNEL_BACKUP_POLL_INTERVAL_MS", "250")
 
-# A worker has at most 64 requests open, each in a thread.
+# A process has at most 64 workers and a thread that answers queries, each with one request open.
 MOST_CALLS = 80
 # The longest line that the host reads, in bytes, and how deep its values may nest.
 MOST_BYTES, MOST_LEVELS = 128 << 20, 127
@@ -221,7 +221,7 @@ def pages_of(calls: Any, worker_metrics: Optional[str]) -> Dict[str, Any]:
     return {
         "/metrics": lambda: (200, calls.counts.text() + calls.tasks.text() + content_of(worker_metrics)),
         "/live": lambda: (200, "the bridge lives\n"),
-        "/ready": lambda: (200, "polls succeed\n") if calls.is_ready() else (503, "no poll succeeds\n"),
+        "/ready": lambda: (200, "a poll succeeded, or is open for a while\n") if calls.is_ready() else (503, "no poll succeeds\n"),
     }
 
 

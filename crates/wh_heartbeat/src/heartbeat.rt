@@ -45,8 +45,8 @@ pub trait Heartbeat {
     /// Returns what the response to the poll said of the task that runs: which attempt it is, the
     /// details of the last heartbeat of an earlier attempt, with which a handler can go on where
     /// that one was, and the times. Returns `OutOfMemory` if there was no memory for a copy, or for
-    /// the info when the task came. A handler that then returns `OutOfMemory` too leaves the task
-    /// to a later attempt.
+    /// the info when the task came. If the handler then returns `OutOfMemory` too, the task gets no
+    /// answer: it times out, and a later attempt, if there is one, goes on.
     fn info(&self) -> Result<ActivityInfo, OutOfMemory>
         ensures { IfOk result tells };
 }
