@@ -9,6 +9,8 @@ something else is written; completed without commands, it leaves no event.
 
 from datetime import datetime, timedelta, timezone
 
+from findings import Account
+
 FIRST = datetime(2024, 5, 1, 10, 0, 0, tzinfo=timezone.utc)
 # Ends of activities and children are written after all else that was held back.
 LAST_OF_ALL = ("ActivityTaskCompleted", "ActivityTaskFailed", "ActivityTaskTimedOut", "ActivityTaskCanceled")
@@ -117,6 +119,7 @@ class Run:
         self.before = 0
         self.activities, self.timers, self.due, self.children = {}, {}, {}, {}
         self.is_canceled = False
+        self.account = Account(server.clock)
         started = {
             "workflowType": {"name": kind},
             "taskQueue": {"name": queue, "kind": "TASK_QUEUE_KIND_NORMAL"},
