@@ -1,7 +1,10 @@
 #!/usr/bin/env python3
 """Tries what docs/PROVED.md cites: each name in backticks is a function, a type, a trait, a definition, a crate or a file of the
 repository, and each clause in parentheses after it is one of its clauses, fields or ghost items. In the table of crates the word
-before a name is its crate. README and the other pages are searched for links alone: each file is there, and each heading.
+before a name is its crate. All pages are searched for links: each file is there, and each heading.
+
+The map of docs/ARCHITECTURE.md has each crate of crates.txt once, in the same groups and the same order, and its arrows say what
+the groups stand on; in crates.txt each crate comes after those that it stands on.
 
     tests/claims.py
 
@@ -17,7 +20,7 @@ from rust_items import body_of, past_braces
 
 code_of = functools.cache(rust_items.code_of)
 TOP = Path(__file__).resolve().parent.parent
-PAGES = [TOP / "README.md", *sorted((TOP / "docs").glob("*.md"))]
+PAGES = [*sorted(TOP.glob("*.md")), *sorted((TOP / "docs").glob("*.md"))]
 # A name, and the clauses that are cited of it.
 CITED = re.compile(r"`([^`]+)`(?: \(((?:\w+, )*\w+)\))?")
 LINK = re.compile(r"\]\(([^)#:]*)(?:#([\w-]+))?\)")
