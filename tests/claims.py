@@ -10,13 +10,12 @@ The last line is `N tried, M wrong`, and the status is 1 where one is wrong."""
 import functools
 import re
 import sys
-from pathlib import Path
 
 import rust_items
+from rows import TOP, try_rows, words_of
 from rust_items import body_of, past_braces
 
 code_of = functools.cache(rust_items.code_of)
-TOP = Path(__file__).resolve().parent.parent
 PAGES = [TOP / "README.md", *sorted((TOP / "docs").glob("*.md"))]
 # A name, and the clauses that are cited of it.
 CITED = re.compile(r"`([^`]+)`(?: \(((?:\w+, )*\w+)\))?")
@@ -134,22 +133,14 @@ def wrong_link(file, target, anchor):
     return None
 
 
-def main():
-    wrong, tried = [], 0
+def claims():
+    """Yields each citation and each link, with what is wrong with it."""
     for name, clauses, crate in citations((TOP / "docs/PROVED.md").read_text(encoding="utf-8")):
-        tried += 1
-        wrong.append(wrong_name(name, clauses, crate))
+        yield f"PROVED.md: {name}", wrong_name(name, clauses, crate)
     for file in PAGES:
         for target, anchor in LINK.findall(file.read_text(encoding="utf-8")):
-            tried += 1
-            why = wrong_link(file, target, anchor)
-            wrong.append(f"{file.name}: {why}" if why else None)
-    wrong = [one for one in wrong if one]
-    for one in wrong:
-        print(f"claims: {one}", file=sys.stderr)
-    print(f"{tried} tried, {len(wrong)} wrong")
-    return 1 if wrong or not tried else 0
+            yield f"{file.name}: {target}{'#' * bool(anchor)}{anchor}", wrong_link(file, target, anchor)
 
 
 if __name__ == "__main__":
-    sys.exit(main())
+    sys.exit(try_rows(claims(), words_of(__doc__).parse_args()))
