@@ -87,8 +87,10 @@ def seconds_of(duration: str) -> float:
 class Pauses:
     """The pauses after polls that end at once without a task. Those of a Task Queue grow, until it has a task."""
 
-    def __init__(self):
-        self.lock, self.held = threading.Lock(), {}
+    def __init__(self) -> None:
+        self.lock = threading.Lock()
+        # The pause after the last poll of a Task Queue, and since when.
+        self.held: Dict[str, Tuple[float, float]] = {}
 
     def next(self, queue: str) -> float:
         """Returns the next pause: twice the last one, or the last one again while it is not over, so that many polls at once
@@ -110,8 +112,9 @@ class Pauses:
 class Reports:
     """What was reported, and when."""
 
-    def __init__(self):
-        self.lock, self.last = threading.Lock(), {}
+    def __init__(self) -> None:
+        self.lock = threading.Lock()
+        self.last: Dict[Tuple[str, Any], float] = {}
 
     def add(self, what: Tuple[str, Any], text: str, longest: float = REPORT_SECONDS) -> None:
         """Reports something, unless the same was reported in so many seconds."""
@@ -128,8 +131,9 @@ class Tokens:
     """The tasks of activities that are in hand, by their tokens: what each is called, and until when its answer may be
     tried."""
 
-    def __init__(self):
-        self.lock, self.tasks = threading.Lock(), {}
+    def __init__(self) -> None:
+        self.lock = threading.Lock()
+        self.tasks: Dict[str, Tuple[str, float]] = {}
 
     def add(self, task: Dict[str, Any]) -> None:
         """Notes a task that a poll gave. A server writes a timeout that is not set as 0."""
@@ -220,8 +224,8 @@ class Calls:
 
     def count(self, method: str, namespace: str, took: float, code: Optional[grpc.StatusCode]) -> None:
         """Counts a call. A poll that is empty, or ends at a shutdown, has not failed."""
-        is_failure = code and not (method.startswith("Poll") and code.value[0] in (CANCELLED, DEADLINE))
-        self.counts.add(namespace, method, took, code.name if is_failure else None)
+        is_normal = code and method.startswith("Poll") and code.value[0] in (CANCELLED, DEADLINE)
+        self.counts.add(namespace, method, took, code.name if code and not is_normal else None)
 
     def name_events(self, result: Dict[str, Any], request: Any) -> None:
         """Gives a name to each type of event that the package does not know and gives as a number. Reports the first event of
@@ -241,7 +245,8 @@ class Calls:
     def poll(self, method: str, request: Any) -> Outcome:
         """Makes a poll, again and again while it is refused in passing."""
         queue = getattr(request, "task_queue", None)
-        name, begun, wait = f"{method} of {queue.name}" if queue else method, None, FIRST_WAIT
+        name, wait = f"{method} of {queue.name}" if queue else method, FIRST_WAIT
+        begun: Optional[float] = None
         while True:
             result, error = self.poll_once(name, method, request)
             if error is None or error == SHUTDOWN[1]:
@@ -281,10 +286,9 @@ class Calls:
             return SHUTDOWN  # The channel was closed.
         finally:
             self.readiness.end(number, name, is_good)
-        code = None if error is None else error[0]
-        if code == CANCELLED:
+        if error is not None and error[0] == CANCELLED:
             return SHUTDOWN if self.is_stopped.is_set() else (None, (UNAVAILABLE, error[1]))
-        if code not in (None, DEADLINE):
+        if error is not None and error[0] != DEADLINE:
             return None, error
         self.take(name, method, result, time.monotonic() - begun)
         return result or {}, None

@@ -8,7 +8,7 @@ import ssl
 import threading
 import time
 from argparse import Namespace
-from typing import Callable, List, Optional, Sequence, Tuple
+from typing import Any, Callable, Dict, List, Optional, Sequence, Tuple
 
 import grpc
 
@@ -98,9 +98,10 @@ class Channels:
     """Two channels to the server: one for polls, whose end cancels them, and one for all other calls."""
 
     def __init__(self, found: Namespace):
-        self.for_polls, self.for_others, self.stubs = connect(found), connect(found), {}
+        self.for_polls, self.for_others = connect(found), connect(found)
+        self.stubs: Dict[str, Callable[..., Any]] = {}
 
-    def stub(self, method: str, made: type, response: type) -> Callable:
+    def stub(self, method: str, made: Any, response: Any) -> Callable[..., Any]:
         """Returns the callable that makes the calls of a method."""
         if method not in self.stubs:
             channel = self.for_polls if method.startswith("Poll") else self.for_others
@@ -143,7 +144,8 @@ class Connections:
     """The channels that are used now, those that were used before, and the key."""
 
     def __init__(self, found: Namespace):
-        self.found, self.lock, self.earlier = found, threading.Lock(), []
+        self.found, self.lock = found, threading.Lock()
+        self.earlier: List[Tuple[float, Channels]] = []
         # Made before the files are read, so that no change after that is missed.
         self.watched = [Watched(tls_files(found), self.reconnect), Watched([found.api_key_file], self.read_key)]
         self.read_key()

@@ -21,8 +21,8 @@ from concurrent.futures import ThreadPoolExecutor
 from pathlib import Path
 
 import support
-from support import ACTIVITY, ANSWER, LIMIT_SECONDS, PAGE, TASK, TOP, Bridge, Tries
-from support import base64_of, free_port, has, outcome, page_of, same, soon
+from rows import TOP, Tries, has, same, soon
+from support import ACTIVITY, ANSWER, LIMIT_SECONDS, PAGE, TASK, Bridge, base64_of, free_port, outcome, page_of
 
 os.environ.setdefault("GRPC_VERBOSITY", "NONE")
 support.take_packages("the bridge needs")

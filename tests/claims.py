@@ -13,13 +13,12 @@ The last line is `N tried, M wrong`, and the status is 1 where one is wrong."""
 import functools
 import re
 import sys
-from pathlib import Path
 
 import rust_items
+from rows import TOP, try_rows, words_of
 from rust_items import body_of, past_braces
 
 code_of = functools.cache(rust_items.code_of)
-TOP = Path(__file__).resolve().parent.parent
 PAGES = [*sorted(TOP.glob("*.md")), *sorted((TOP / "docs").glob("*.md"))]
 # A name, and the clauses that are cited of it.
 CITED = re.compile(r"`([^`]+)`(?: \(((?:\w+, )*\w+)\))?")
@@ -182,43 +181,35 @@ def arrows_wanted(groups):
 
 
 def claims_of_map(page):
-    """Yields for each group, crate and arrow of crates.txt and of the map what is wrong with it, or None."""
+    """Yields each group, crate and arrow of crates.txt and of the map, with what is wrong with it."""
     listed, (drawn, arrows), crates = groups_listed(), map_drawn(page), crates_listed()
-    yield None if [*listed] == [*drawn] else f"the map has the groups {', '.join(drawn)}"
+    yield "the groups", None if [*listed] == [*drawn] else f"the map has the groups {', '.join(drawn)}"
     for group, names in listed.items():
-        yield None if drawn.get(group) == [*names] else f"the crates of {group} are not those of crates.txt, in their order"
+        why = "its crates are not those of crates.txt, in their order"
+        yield group, None if drawn.get(group) == [*names] else why
     places = [name for names in drawn.values() for name in names]
     for name in dict.fromkeys([*crates, *places]):
-        why = f"the map has {name} {places.count(name)} times" if name in crates else f"{name} of the map is no crate"
-        yield None if name in crates and places.count(name) == 1 else why
+        why = f"the map has it {places.count(name)} times" if name in crates else "it is no crate"
+        yield name, None if name in crates and places.count(name) == 1 else why
     for place, name in enumerate(crates):
         later = [use for use in crates[name] if use in [*crates][place:]]
-        yield f"{name} comes before {', '.join(later)} in crates.txt" if later else None
+        yield f"the place of {name}", f"it comes before {', '.join(later)} in crates.txt" if later else None
     wanted = arrows_wanted(listed) if [*listed] == [*drawn] else set()
     for one in sorted(wanted | arrows):
-        why = "is not in the map" if one in wanted else "is in the map, and should not be"
-        yield None if one in wanted & arrows else f"the arrow {' --> '.join(one)} {why}"
+        why = "it is not in the map" if one in wanted else "it is in the map, and should not be"
+        yield f"the arrow {' --> '.join(one)}", None if one in wanted & arrows else why
 
 
-def main():
-    wrong, tried = [], 0
+def claims():
+    """Yields each citation and each link, with what is wrong with it."""
     for name, clauses, crate in citations((TOP / "docs/PROVED.md").read_text(encoding="utf-8")):
-        tried += 1
-        wrong.append(wrong_name(name, clauses, crate))
-    for why in claims_of_map((TOP / "docs/ARCHITECTURE.md").read_text(encoding="utf-8")):
-        tried += 1
-        wrong.append(f"ARCHITECTURE.md: {why}" if why else None)
+        yield f"PROVED.md: {name}", wrong_name(name, clauses, crate)
+    for what, why in claims_of_map((TOP / "docs/ARCHITECTURE.md").read_text(encoding="utf-8")):
+        yield f"ARCHITECTURE.md: {what}", why
     for file in PAGES:
         for target, anchor in LINK.findall(file.read_text(encoding="utf-8")):
-            tried += 1
-            why = wrong_link(file, target, anchor)
-            wrong.append(f"{file.name}: {why}" if why else None)
-    wrong = [one for one in wrong if one]
-    for one in wrong:
-        print(f"claims: {one}", file=sys.stderr)
-    print(f"{tried} tried, {len(wrong)} wrong")
-    return 1 if wrong or not tried else 0
+            yield f"{file.name}: {target}{'#' * bool(anchor)}{anchor}", wrong_link(file, target, anchor)
 
 
 if __name__ == "__main__":
-    sys.exit(main())
+    sys.exit(try_rows(claims(), words_of(__doc__).parse_args()))

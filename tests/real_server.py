@@ -37,7 +37,8 @@ from collections import Counter
 from pathlib import Path
 
 import support
-from support import ANSWER, CALL_SECONDS, NOT_FOUND, PAGE, PROGRAM, RESULT, STAND_IN, TASK, Client, Wrong, free_port, page_of, payloads
+from rows import PROGRAM, Wrong, soon
+from support import ANSWER, CALL_SECONDS, NOT_FOUND, PAGE, RESULT, STAND_IN, TASK, Client, free_port, page_of, payloads
 
 from history import CARRIED_OVER
 from messages import attributes_name
@@ -324,7 +325,7 @@ class Trouble:
         return execution
 
     def wait(self, what, condition):
-        support.soon(what, condition, TASK_SECONDS)
+        soon(what, condition, TASK_SECONDS)
 
     def are_closed(self, runs):
         self.wait(f"{len(runs)} runs are closed", lambda: not any(map(self.client.is_open, runs)))

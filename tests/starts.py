@@ -13,9 +13,10 @@ import sys
 import tempfile
 from pathlib import Path
 
-TOP = Path(__file__).resolve().parent.parent
-sys.path.insert(0, str(TOP))
-import launcher
+from rows import TOP, difference, try_rows, words_of
+
+sys.path.insert(1, str(TOP))
+import launcher  # noqa: E402
 
 LIMIT_SECONDS = 60
 ALL, REPLAY, FILES, TABLES, SERVE = "wfhost", "wfhost_replay", "wfhost_files", "wfhost_tables", "wfhost_serve"
@@ -231,16 +232,6 @@ def tries():
     yield "the names in costs.txt that are no crates", [], unlisted
 
 
-def main():
-    tried = wrong = 0
-    for what, wanted, came in tries():
-        tried += 1
-        if wanted != came:
-            wrong += 1
-            print(f"{what}: wanted {wanted}, got {came}")
-    print(f"{tried} tried, {wrong} wrong")
-    return 1 if wrong else 0
-
-
 if __name__ == "__main__":
-    sys.exit(main())
+    asked = words_of(__doc__).parse_args()
+    sys.exit(try_rows(((what, difference(came, wanted)) for what, wanted, came in tries()), asked))

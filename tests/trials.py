@@ -19,7 +19,8 @@ from itertools import cycle
 from pathlib import Path
 
 import support
-from support import ACTIVITY, ANSWER, ORDERS, PAGE, PROGRAM, RESULT, TASK, Client, Tries, Wrong, ended, has, same, soon
+from rows import ORDERS, PROGRAM, Tries, Wrong, has, same, soon
+from support import ACTIVITY, ANSWER, PAGE, RESULT, TASK, Client, ended
 
 os.environ.setdefault("GRPC_VERBOSITY", "NONE")
 support.take_packages("the bridge needs")
