@@ -36,9 +36,14 @@ pub trait Heartbeat {
     /// Which info a handler may get of a task.
     ghost tells: { ActivityInfo → Type 0 };
 
+    /// How the heartbeats are once nothing is held. One that leaves it out says nothing of it.
+    ghost is_flushed: { Self → Type 0 } = { λ heartbeat. Unit {0} };
+
     /// Sends a heartbeat and returns the response. The server may pass the details to a later
-    /// attempt. Returns `OutOfMemory` if there was no memory for the call. Nothing was sent then,
-    /// and the handler can send another heartbeat.
+    /// attempt. A heartbeat that comes soon after another may be held, and its details are sent
+    /// later, unless those of another take their place (Temporal documentation, "Activity
+    /// Heartbeat", on throttling). Its response is by what former ones heard. Returns `OutOfMemory`
+    /// if there was no memory for it, and the handler can send another heartbeat.
     fn send(&mut self, details: &[Payload]) -> Result<HeartbeatResponse, OutOfMemory>
         ensures { IfOk result (brings details.now) };
 
@@ -49,10 +54,16 @@ pub trait Heartbeat {
     /// to a later attempt.
     fn info(&self) -> Result<ActivityInfo, OutOfMemory>
         ensures { IfOk result tells };
+
+    /// Sends the details that are held, if any are, whenever the last heartbeat was sent. It is
+    /// called after a handler that did not complete its activity, so that a later attempt gets them;
+    /// a handler need not call it.
+    fn flush(&mut self)
+        ensures { is_flushed self.new };
 }
 
-/// Sends no heartbeats, for tasks that came from no server: each response is `GoOn`, and each task
-/// is a first attempt of which no times are told.
+/// Sends no heartbeats and holds none, for tasks that came from no server: each response is `GoOn`,
+/// and each task is a first attempt of which no times are told.
 #[derive(Drop)]
 pub struct NoHeartbeat;
 
@@ -72,4 +83,6 @@ impl Heartbeat for NoHeartbeat {
     fn info(&self) -> Result<ActivityInfo, OutOfMemory> {
         Ok(ActivityInfo::of_first_attempt())
     }
+
+    fn flush(&mut self) {}
 }

@@ -5,7 +5,9 @@
 mod activity_info;
 mod cell;
 mod heartbeat;
+pub mod laws;
+mod pace;
 
 pub use activity_info::{ActivityInfo, ActivityTimes};
-pub use cell::ActivityCell;
+pub use cell::{ActivityCell, HeartbeatStep};
 pub use heartbeat::{Heartbeat, HeartbeatResponse, NoHeartbeat};
