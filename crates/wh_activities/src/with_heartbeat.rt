@@ -69,9 +69,7 @@ impl<B: HeartbeatHandler, H: Heartbeat> ActivityHandler for WithHeartbeat<B, H> 
 
     fn run(&mut self, task: &ActivityTask) -> Result<ActivityAnswer, OutOfMemory> {
         let outcome = self.handler.run(task, &mut self.heartbeat);
-        if !completes(&outcome) {
-            self.heartbeat.flush();
-        }
+        self.heartbeat.finish(completes(&outcome));
         outcome
     }
 }

@@ -43,7 +43,7 @@ may_send_apart running now may =
 same_interval : (running : RunningActivity) (moment : Moment) → interval (after running moment) ≡ interval running
 same_interval running (Gives details now) =
     of_both interval (may_send running now) (sending running now) (holding running details) running refl
-    (of_both interval running.is_gone running (record running { held = Some details }) running refl refl)
+    (of_both interval running.is_over running (record running { held = Some details }) running refl refl)
 same_interval running (Looks now) = of_both interval (has_due running now) (sending running now) running running refl refl
 same_interval running (Hears details GoOn) = refl
 same_interval running (Hears details CancelRequested) = refl
@@ -74,7 +74,7 @@ given_last : (running : RunningActivity) (details : List Payload) (now : Option 
     → (if b then sending running now else holding running details).sent ≡ running.sent
 given_last running details now true sends = cc
 given_last running details now false sends =
-    of_both (λ r. r.sent) running.is_gone running (record running { held = Some details }) running refl refl
+    of_both (λ r. r.sent) running.is_over running (record running { held = Some details }) running refl refl
 
 looked_last : (running : RunningActivity) (now : Option ℕ) (b : Bool) → has_due running now ≡ b
     → is_some (if b then running.held else None) ≡ false → (if b then sending running now else running).sent ≡ running.sent
@@ -145,11 +145,11 @@ held_by : (running : RunningActivity) (details : List Payload) (gone : Bool) →
 held_by running details true has = cc
 held_by running details false has = refl
 
-given_held : (running : RunningActivity) (details : List Payload) (now : Option ℕ) (b : Bool) → running.is_gone ≡ false
+given_held : (running : RunningActivity) (details : List Payload) (now : Option ℕ) (b : Bool) → running.is_over ≡ false
     → sent_in (if b then Send details else Hold (known running)) ≡ None
     → (if b then sending running now else holding running details).held ≡ Some details
 given_held running details now true has none = cc
-given_held running details now false has none = held_by running details running.is_gone has
+given_held running details now false has none = held_by running details running.is_over has
 
 pub last_details_are_held : LastDetailsAreHeld
 last_details_are_held running details now moments has held quiet none =
@@ -169,7 +169,7 @@ given_some : (running : RunningActivity) (details : List Payload) (now : Option 
     → is_some (sent_in (if b then Send details else Hold (known running))) ≡ false → is_some running.held ≡ true
     → is_some (if b then sending running now else holding running details).held ≡ true
 given_some running details now true sends some = cc
-given_some running details now false sends some = some_by running details running.is_gone some
+given_some running details now false sends some = some_by running details running.is_over some
 
 looked_some : (running : RunningActivity) (now : Option ℕ) (b : Bool) → is_some (if b then running.held else None) ≡ false
     → is_some running.held ≡ true → is_some (if b then sending running now else running).held ≡ true
@@ -177,7 +177,7 @@ looked_some running now true sends some = cc
 looked_some running now false sends some = some
 
 some_after : (running : RunningActivity) (moment : Moment) → is_some (sent_by running moment) ≡ false
-    → (after running moment).is_gone ≡ false → is_some running.held ≡ true → is_some (after running moment).held ≡ true
+    → (after running moment).is_over ≡ false → is_some running.held ≡ true → is_some (after running moment).held ≡ true
 some_after running (Gives details now) sends has some = given_some running details now (may_send running now) sends some
 some_after running (Looks now) sends has some = looked_some running now (has_due running now) sends some
 some_after running (Hears details GoOn) sends has some = some
@@ -200,7 +200,7 @@ canceled running = running.is_canceled
 canceled_after : (running : RunningActivity) (moment : Moment) → canceled running ≡ true → canceled (after running moment) ≡ true
 canceled_after running (Gives details now) is =
     of_both canceled (may_send running now) (sending running now) (holding running details) running refl
-    (of_both canceled running.is_gone running (record running { held = Some details }) running refl refl) ∙ is
+    (of_both canceled running.is_over running (record running { held = Some details }) running refl refl) ∙ is
 canceled_after running (Looks now) is = of_both canceled (has_due running now) (sending running now) running running refl refl ∙ is
 canceled_after running (Hears details GoOn) is = is
 canceled_after running (Hears details CancelRequested) is = refl
@@ -221,7 +221,7 @@ known_warns false false is same = cc
 step_warns : (running : RunningActivity) (details : List Payload) (b : Bool) → canceled running ≡ true
     → IsWarned (if b then Send details else Hold (known running))
 step_warns running details true is = tt
-step_warns running details false is = known_warns running.is_gone running.is_canceled is
+step_warns running details false is = known_warns running.is_over running.is_canceled is
 
 pub cancel_is_told : CancelIsTold
 cancel_is_told running details next now moments =

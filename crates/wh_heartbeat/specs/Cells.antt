@@ -15,40 +15,36 @@ begun token info = record {
   token = token;
   info = info;
   is_canceled = false;
-  is_gone = false;
+  is_told = false;
+  is_over = false;
   sent = None;
   is_sending = false;
   held = None;
 }
 
--- there is a task, and it is the one of the token
-abbrev pub is_task : Option RunningActivity → List ℕ → Bool
-is_task None token = false
-is_task (Some running) token = bytes_eq running.token token
-
--- there is a task, it is the one of the token, and is to be canceled
+-- there is a task, it is the one of the token, and its handler was told that it is to be canceled
 abbrev pub was_canceled : Option RunningActivity → List ℕ → Bool
 was_canceled None token = false
-was_canceled (Some running) token = running.is_canceled && bytes_eq running.token token
+was_canceled (Some running) token = running.is_told && bytes_eq running.token token
 
 -- ---- One heartbeat
 
 -- the response to a heartbeat that is held, by what former responses said
 abbrev pub known : RunningActivity → HeartbeatResponse
-known running = if running.is_gone then Gone else (if running.is_canceled then CancelRequested else GoOn)
+known running = if running.is_over then Gone else (if running.is_canceled then CancelRequested else GoOn)
 
--- a heartbeat may be sent now: the server has the task, none is on its way, and the interval since the last one is over
+-- a heartbeat may be sent now: those of the task have not ended, none is on its way, and the interval since the last one is over
 abbrev pub may_send : RunningActivity → Option ℕ → Bool
 may_send running now =
-    not running.is_gone && (not running.is_sending && is_due running.sent now (interval_of running.info.times.heartbeat_timeout))
+    not running.is_over && (not running.is_sending && is_due running.sent now (interval_of running.info.times.heartbeat_timeout))
 
 -- the task from when a heartbeat is sent, until its response is heard; nothing is held
 abbrev pub sending : RunningActivity → Option ℕ → RunningActivity
 sending running now = record running { sent = now; is_sending = true; held = None }
 
--- the task with these details held in place of those before; a task that the server no longer has needs none
+-- the task with these details held in place of those before, unless its heartbeats have ended
 abbrev pub holding : RunningActivity → List Payload → RunningActivity
-holding running details = if running.is_gone then running else record running { held = Some details }
+holding running details = if running.is_over then running else record running { held = Some details }
 
 -- what becomes of a heartbeat with these details, and of the task
 abbrev pub step_of : RunningActivity → List Payload → Option ℕ → HeartbeatStep
@@ -76,12 +72,16 @@ later (Some held) unheard = Some held
 abbrev pub after_response : RunningActivity → List Payload → HeartbeatResponse → RunningActivity
 after_response running details GoOn = record running { is_sending = false }
 after_response running details CancelRequested = record running { is_sending = false; is_canceled = true }
-after_response running details Gone = record running { is_sending = false; is_gone = true; held = None }
+after_response running details Gone = record running { is_sending = false; is_over = true; held = None }
 after_response running details Unheard = record running { is_sending = false; held = later running.held details }
 
--- the task once what was held is taken out
-abbrev pub flushed : RunningActivity → RunningActivity
-flushed running = record running { held = None }
+-- the task once its heartbeats have ended, and what was held is taken out
+abbrev pub ended : RunningActivity → RunningActivity
+ended running = record running { is_over = true; held = None }
+
+-- the task once its handler was told that it is to be canceled
+abbrev pub told : RunningActivity → RunningActivity
+told running = record running { is_told = true }
 
 -- ---- The same of the task in a cell, if there is one and it is the one of the token
 

@@ -86,19 +86,19 @@ abbrev pub AreQuiet : List Moment → Type 0
 AreQuiet [] = Unit {0}
 AreQuiet (moment ∷ moments) = (is_quiet moment ≡ true) × AreQuiet moments
 
--- of a task that the server has, the last details that were not sent are what is held, until they are sent, others are
--- given, or the server has no such task: so they are what the timer sends next, or is sent before the answer
+-- the last details that were not sent are what is held, until they are sent, others are given, or the server says that
+-- it has no such task: so they are what the timer sends next, or is sent before the answer
 abbrev pub LastDetailsAreHeld : Type 0
 LastDetailsAreHeld = (running : RunningActivity) (details : List Payload) (now : Option ℕ) (moments : List Moment)
-    → running.is_gone ≡ false → sent_by running (Gives details now) ≡ None → AreQuiet moments
+    → running.is_over ≡ false → sent_by running (Gives details now) ≡ None → AreQuiet moments
     → sent_times (after running (Gives details now)) moments ≡ []
     → (after_all (after running (Gives details now)) moments).held ≡ Some details
 
--- at each moment what is held is sent, or still held, or later details are, unless the server has no such task; and
+-- at each moment what is held is sent, or still held, or later details are, unless the heartbeats have ended; and
 -- details of which no response was heard are held, or later ones are
 pub record NothingIsLost : Type 0 where
   pub held : (running : RunningActivity) (moment : Moment) → is_some (sent_by running moment) ≡ false
-      → (after running moment).is_gone ≡ false → is_some running.held ≡ true
+      → (after running moment).is_over ≡ false → is_some running.held ≡ true
       → is_some (after running moment).held ≡ true
   pub unheard : (running : RunningActivity) (details : List Payload)
       → is_some (after running (Hears details Unheard)).held ≡ true

@@ -1,7 +1,7 @@
 //! The activity task that a worker runs, shared by its source, its handler and the timer.
 
 ghost use Rattle.std.specs.Prelude.{◌≡◌, IfOk, IfSome, None, is_some, option_map};
-ghost use Rattle.wh_heartbeat.specs.Cells.{after_due, after_response, after_step, begun, due_in, due_of, flushed, has_due, has_due_in, held_in, holding, in_task, is_sending, is_task, known, may_send, sending, step_in, step_of, was_canceled};
+ghost use Rattle.wh_heartbeat.specs.Cells.{after_due, after_response, after_step, begun, due_in, due_of, ended, has_due, has_due_in, held_in, holding, in_task, is_sending, known, may_send, sending, step_in, step_of, told, was_canceled};
 
 use crate::activity_info::ActivityInfo;
 use crate::heartbeat::HeartbeatResponse;
@@ -28,8 +28,11 @@ struct RunningActivity {
     info: ActivityInfo,
     /// Whether the response to a heartbeat said that it is to be canceled.
     is_canceled: bool,
-    /// Whether the response to a heartbeat said that it can't be answered any more.
-    is_gone: bool,
+    /// Whether its handler was told that it is to be canceled.
+    is_told: bool,
+    /// Whether no heartbeat of it may be sent any more: the response to one said that it can't be
+    /// answered any more, or its handler has ended.
+    is_over: bool,
     /// When its last heartbeat was sent, if one was, and there was a time.
     sent: Option<u64>,
     /// Whether a heartbeat was sent, of which no response was heard so far.
@@ -43,7 +46,7 @@ impl RunningActivity {
     fn known(&self) -> HeartbeatResponse
         ensures { result ≡ known self.now }
     {
-        if self.is_gone {
+        if self.is_over {
             HeartbeatResponse::Gone
         } else if self.is_canceled {
             HeartbeatResponse::CancelRequested
@@ -57,7 +60,7 @@ impl RunningActivity {
     fn may_send(&self, now: Option<u64>) -> bool
         ensures { result ≡ may_send self.now now }
     {
-        !self.is_gone && !self.is_sending && is_due(self.sent, now, interval_of(&self.info.times))
+        !self.is_over && !self.is_sending && is_due(self.sent, now, interval_of(&self.info.times))
     }
 
     /// Whether something is held, and may be sent now.
@@ -80,7 +83,7 @@ impl RunningActivity {
     fn hold(&mut self, details: Items<Payload>)
         ensures { self.new ≡ holding self.old details }
     {
-        if !self.is_gone {
+        if !self.is_over {
             self.held = Some(details);
         }
     }
@@ -123,7 +126,7 @@ impl RunningActivity {
             HeartbeatResponse::GoOn => {}
             HeartbeatResponse::CancelRequested => self.is_canceled = true,
             HeartbeatResponse::Gone => {
-                self.is_gone = true;
+                self.is_over = true;
                 self.held = None;
             }
             HeartbeatResponse::Unheard => {
@@ -145,7 +148,8 @@ fn begun(token: &Text, info: ActivityInfo) -> Option<RunningActivity>
             token,
             info,
             is_canceled: false,
-            is_gone: false,
+            is_told: false,
+            is_over: false,
             sent: None,
             is_sending: false,
             held: None,
@@ -176,12 +180,25 @@ fn info_of(running: &Option<RunningActivity>) -> Result<Option<ActivityInfo>, Ou
     }
 }
 
-/// Whether there is a task, it is that of the token, and is to be canceled.
+/// Notes that the handler of the task was told that it is to be canceled, if there is one and it is
+/// that of the token.
+fn note_cancel(running: &mut Option<RunningActivity>, token: &str)
+    ensures { running.new ≡ in_task told running.old token.now }
+{
+    if let Some(running) = running {
+        if running.token.get() == token {
+            running.is_told = true;
+        }
+    }
+}
+
+/// Whether there is a task, it is that of the token, and its handler was told that it is to be
+/// canceled.
 fn was_canceled(running: &Option<RunningActivity>, token: &str) -> bool
     ensures { result ≡ was_canceled running.now token.now }
 {
     match running {
-        Some(running) => running.is_canceled && running.token.get() == token,
+        Some(running) => running.is_told && running.token.get() == token,
         None => false,
     }
 }
@@ -243,14 +260,15 @@ fn take_due(
     None
 }
 
-/// Takes what is held, whenever the last heartbeat was sent, if there is a task and it is that of
-/// the token.
-fn take_held(running: &mut Option<RunningActivity>, token: &str) -> Option<Items<Payload>>
+/// Ends the heartbeats of the task, if there is one and it is that of the token, and takes what is
+/// held.
+fn end(running: &mut Option<RunningActivity>, token: &str) -> Option<Items<Payload>>
     ensures held { result ≡ held_in running.old token.now }
-    ensures left { running.new ≡ in_task flushed running.old token.now }
+    ensures left { running.new ≡ in_task ended running.old token.now }
 {
     if let Some(running) = running {
         if running.token.get() == token {
+            running.is_over = true;
             return running.held.take();
         }
     }
@@ -346,15 +364,21 @@ impl ActivityCell {
         take_due(&mut self.running.lock(rt), token.get(), now)
     }
 
-    /// Takes the details that are held for the task of this token, if it is the one that runs, so
-    /// that they are sent before its answer. If a heartbeat is on its way, it waits for the response
-    /// first.
-    pub fn take_held<R: Wait>(&self, rt: &R, token: &Text) -> Option<Items<Payload>> {
+    /// Ends the heartbeats of the task of this token, if it is the one that runs: no more are sent,
+    /// and what is held is dropped.
+    pub fn end<R: Wait>(&self, rt: &R, token: &Text) {
+        let _held = end(&mut self.running.lock(rt), token.get());
+    }
+
+    /// Ends the heartbeats of the task of this token, if it is the one that runs, and takes what is
+    /// held, so that it is sent before the task's answer. If a heartbeat is on its way, it waits for
+    /// the response first: if there was none, its details are held again.
+    pub fn take_last<R: Wait>(&self, rt: &R, token: &Text) -> Option<Items<Payload>> {
         let running = self.running.lock(rt);
         let mut running = self
             .heard
             .wait_while(rt, running, |running| is_sending(running));
-        take_held(&mut running, token.get())
+        end(&mut running, token.get())
     }
 
     /// Notes the response to a heartbeat of the task of this token with these details, if it is the
@@ -370,7 +394,14 @@ impl ActivityCell {
         self.heard.notify_all();
     }
 
-    /// Whether the task of this token is the one that runs, and is to be canceled.
+    /// Notes that the handler of the task of this token was told that it is to be canceled, if it is
+    /// the one that runs.
+    pub fn note_cancel<R: Wait>(&self, rt: &R, token: &Text) {
+        note_cancel(&mut self.running.lock(rt), token.get());
+    }
+
+    /// Whether the task of this token is the one that runs, and its handler was told that it is to
+    /// be canceled.
     pub fn was_canceled<R: Wait>(&self, rt: &R, token: &Text) -> bool {
         was_canceled(&self.running.lock(rt), token.get())
     }

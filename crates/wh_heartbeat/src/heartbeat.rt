@@ -25,7 +25,7 @@ pub enum HeartbeatResponse {
 /// "Activity Heartbeat"). A handler with a heartbeat can send heartbeats during `run`, for the task
 /// that it runs.
 pub trait Heartbeat {
-    ghost use Rattle.std.specs.Prelude.{List};
+    ghost use Rattle.std.specs.Prelude.{◌≡◌, List, false};
     ghost use Rattle.wh_events.specs.declared.event.Payload.{Payload};
     ghost use Rattle.wh_heartbeat.specs.declared.activity_info.ActivityInfo.{ActivityInfo};
     ghost use Rattle.wh_heartbeat.specs.declared.heartbeat.HeartbeatResponse.{HeartbeatResponse};
@@ -36,7 +36,7 @@ pub trait Heartbeat {
     /// Which info a handler may get of a task.
     ghost tells: { ActivityInfo → Type 0 };
 
-    /// How the heartbeats are once nothing is held. One that leaves it out says nothing of it.
+    /// How the heartbeats are once what was held is sent. One that leaves it out says nothing of it.
     ghost is_flushed: { Self → Type 0 } = { λ heartbeat. Unit {0} };
 
     /// Sends a heartbeat and returns the response. The server may pass the details to a later
@@ -55,11 +55,11 @@ pub trait Heartbeat {
     fn info(&self) -> Result<ActivityInfo, OutOfMemory>
         ensures { IfOk result tells };
 
-    /// Sends the details that are held, if any are, whenever the last heartbeat was sent. It is
-    /// called after a handler that did not complete its activity, so that a later attempt gets them;
-    /// a handler need not call it.
-    fn flush(&mut self)
-        ensures { is_flushed self.new };
+    /// Ends the heartbeats of the task that runs, after its handler has returned. Unless the handler
+    /// completed the activity, it first sends the details that are held, if any are, so that a later
+    /// attempt gets the last ones. A handler does not call it.
+    fn finish(&mut self, is_completed: bool)
+        ensures { is_completed ≡ false → is_flushed self.new };
 }
 
 /// Sends no heartbeats and holds none, for tasks that came from no server: each response is `GoOn`,
@@ -84,5 +84,5 @@ impl Heartbeat for NoHeartbeat {
         Ok(ActivityInfo::of_first_attempt())
     }
 
-    fn flush(&mut self) {}
+    fn finish(&mut self, _is_completed: bool) {}
 }
