@@ -1,6 +1,6 @@
-//! A worker for talks: its activities take the steps that are their input, one payload each. `"wait"`
-//! waits for half a second, `"fail"` fails, and any other is sent as the details of a heartbeat. An
-//! activity whose heartbeat's response says that it is needed no more fails too.
+//! A worker for talks: its activities take the steps that are their input, one payload each.
+//! `"wait"` waits for half a second, `"fail"` fails, and any other is sent as the details of a
+//! heartbeat. An activity whose heartbeat's response says that it is needed no more fails too.
 #![tactic(auto)]
 
 use row_samples::All;

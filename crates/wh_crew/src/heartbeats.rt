@@ -71,8 +71,8 @@ pub(crate) fn beat<R: Wait, L: Connection>(
 /// Sends the heartbeats of a live worker's handler: each that is not held is a call of
 /// `RecordActivityTaskHeartbeat` for the activity task that the worker runs, over the calls of its
 /// host. The cell says which are held; the timer of `serve_live` sends those later. If no such task
-/// is known, because there was no memory to note it, nothing is sent, the response is `Unheard`, and
-/// the info is `OutOfMemory`.
+/// is known, because there was no memory to note it, nothing is sent, the response is `Unheard`,
+/// and the info is `OutOfMemory`.
 #[derive(Drop)]
 pub struct LiveHeartbeat<'a, R, C> {
     rt: &'a R,

@@ -20,7 +20,8 @@ both_right true b both = both
 both_right false b both = cc
 
 -- what both tasks have in common with a third one, the one that is chosen has
-of_both : {A : Type 0} (f : RunningActivity → A) (b : Bool) (x y running : RunningActivity) → f x ≡ f running → f y ≡ f running
+of_both : {A : Type 0} (f : RunningActivity → A) (b : Bool) (x y running : RunningActivity) → f x ≡ f running
+    → f y ≡ f running
     → f (if b then x else y) ≡ f running
 of_both f true x y running p q = p
 of_both f false x y running p q = q
@@ -44,15 +45,18 @@ same_interval : (running : RunningActivity) (moment : Moment) → interval (afte
 same_interval running (Gives details now) =
     of_both interval (may_send running now) (sending running now) (holding running details) running refl
     (of_both interval running.is_over running (record running { held = Some details }) running refl refl)
-same_interval running (Looks now) = of_both interval (has_due running now) (sending running now) running running refl refl
+same_interval running (Looks now) =
+    of_both interval (has_due running now) (sending running now) running running refl refl
 same_interval running (Hears details GoOn) = refl
 same_interval running (Hears details CancelRequested) = refl
 same_interval running (Hears details Gone) = refl
 same_interval running (Hears details Unheard) = refl
 
-given_apart : (running : RunningActivity) (details : List Payload) (now : Option ℕ) (b : Bool) → may_send running now ≡ b
+given_apart : (running : RunningActivity) (details : List Payload) (now : Option ℕ) (b : Bool)
+    → may_send running now ≡ b
     → is_some (sent_in (if b then Send details else Hold (known running))) ≡ true
-    → IsApart (interval running) running.sent now × ((if b then sending running now else holding running details).sent ≡ now)
+    → IsApart (interval running) running.sent now
+    × ((if b then sending running now else holding running details).sent ≡ now)
 given_apart running details now true may sends = (may_send_apart running now may, refl)
 given_apart running details now false may sends = cc
 
@@ -77,7 +81,8 @@ given_last running details now false sends =
     of_both (λ r. r.sent) running.is_over running (record running { held = Some details }) running refl refl
 
 looked_last : (running : RunningActivity) (now : Option ℕ) (b : Bool) → has_due running now ≡ b
-    → is_some (if b then running.held else None) ≡ false → (if b then sending running now else running).sent ≡ running.sent
+    → is_some (if b then running.held else None) ≡ false
+    → (if b then sending running now else running).sent ≡ running.sent
 looked_last running now true due sends = let some = both_left (is_some running.held) (may_send running now) due in cc
 looked_last running now false due sends = refl
 
@@ -91,17 +96,20 @@ same_last running (Hears details CancelRequested) sends = refl
 same_last running (Hears details Gone) sends = refl
 same_last running (Hears details Unheard) sends = refl
 
-apart_after : (running next : RunningActivity) (last : Option ℕ) (times : List (Option ℕ)) → interval next ≡ interval running
+apart_after : (running next : RunningActivity) (last : Option ℕ) (times : List (Option ℕ))
+    → interval next ≡ interval running
     → next.sent ≡ last → AreApart (interval next) next.sent times → AreApart (interval running) last times
 apart_after running next last times long same apart =
     subst (λ i. AreApart i last times) long (subst (λ at. AreApart (interval next) at times) same apart)
 
-step_apart : (running : RunningActivity) (moment : Moment) (times : List (Option ℕ)) (b : Bool) → is_some (sent_by running moment) ≡ b
+step_apart : (running : RunningActivity) (moment : Moment) (times : List (Option ℕ)) (b : Bool)
+    → is_some (sent_by running moment) ≡ b
     → AreApart (interval (after running moment)) (after running moment).sent times
     → AreApart (interval running) running.sent (if b then time_of moment ∷ times else times)
 step_apart running moment times true sends rest =
     let next = next_apart running moment sends in
-    (next.0, apart_after running (after running moment) (time_of moment) times (same_interval running moment) next.1 rest)
+    let same = same_interval running moment in
+    (next.0, apart_after running (after running moment) (time_of moment) times same next.1 rest)
 step_apart running moment times false sends rest =
     apart_after running (after running moment) running.sent times (same_interval running moment)
     (same_last running moment sends) rest
@@ -114,8 +122,10 @@ sends_apart running (moment ∷ moments) =
 
 -- ---- What is held
 
-looked_held : (running : RunningActivity) (now : Option ℕ) (details : List Payload) (b : Bool) → running.held ≡ Some details
-    → is_some (if b then running.held else None) ≡ false → (if b then sending running now else running).held ≡ Some details
+looked_held : (running : RunningActivity) (now : Option ℕ) (details : List Payload) (b : Bool)
+    → running.held ≡ Some details
+    → is_some (if b then running.held else None) ≡ false
+    → (if b then sending running now else running).held ≡ Some details
 looked_held running now details true held sends = let some = ap is_some held in cc
 looked_held running now details false held sends = held
 
@@ -123,22 +133,27 @@ looked_held running now details false held sends = held
 held_after : (running : RunningActivity) (moment : Moment) (details : List Payload) → running.held ≡ Some details
     → is_quiet moment ≡ true → is_some (sent_by running moment) ≡ false → (after running moment).held ≡ Some details
 held_after running (Gives given now) details held quiet sends = cc
-held_after running (Looks now) details held quiet sends = looked_held running now details (has_due running now) held sends
+held_after running (Looks now) details held quiet sends =
+    looked_held running now details (has_due running now) held sends
 held_after running (Hears heard GoOn) details held quiet sends = held
 held_after running (Hears heard CancelRequested) details held quiet sends = held
 held_after running (Hears heard Gone) details held quiet sends = cc
 held_after running (Hears heard Unheard) details held quiet sends = ap (λ h. later h heard) held
 
-none_now : (b : Bool) (time : Option ℕ) (times : List (Option ℕ)) → (if b then time ∷ times else times) ≡ [] → (b ≡ false) × (times ≡ [])
+none_now : (b : Bool) (time : Option ℕ) (times : List (Option ℕ))
+    → (if b then time ∷ times else times) ≡ [] → (b ≡ false) × (times ≡ [])
 none_now true time times none = cc
 none_now false time times none = (refl, none)
 
-held_after_all : (running : RunningActivity) (moments : List Moment) (details : List Payload) → running.held ≡ Some details
+held_after_all : (running : RunningActivity) (moments : List Moment) (details : List Payload)
+    → running.held ≡ Some details
     → AreQuiet moments → sent_times running moments ≡ [] → (after_all running moments).held ≡ Some details
 held_after_all running [] details held quiet none = held
 held_after_all running (moment ∷ moments) details held quiet none =
-    let so = none_now (is_some (sent_by running moment)) (time_of moment) (sent_times (after running moment) moments) none in
-    held_after_all (after running moment) moments details (held_after running moment details held quiet.0 so.0) quiet.1 so.1
+    let next = after running moment in
+    let so = none_now (is_some (sent_by running moment)) (time_of moment) (sent_times next moments) none in
+    let still = held_after running moment details held quiet.0 so.0 in
+    held_after_all next moments details still quiet.1 so.1
 
 held_by : (running : RunningActivity) (details : List Payload) (gone : Bool) → gone ≡ false
     → (if gone then running else record running { held = Some details }).held ≡ Some details
@@ -171,7 +186,8 @@ given_some : (running : RunningActivity) (details : List Payload) (now : Option 
 given_some running details now true sends some = cc
 given_some running details now false sends some = some_by running details running.is_over some
 
-looked_some : (running : RunningActivity) (now : Option ℕ) (b : Bool) → is_some (if b then running.held else None) ≡ false
+looked_some : (running : RunningActivity) (now : Option ℕ) (b : Bool)
+    → is_some (if b then running.held else None) ≡ false
     → is_some running.held ≡ true → is_some (if b then sending running now else running).held ≡ true
 looked_some running now true sends some = cc
 looked_some running now false sends some = some
@@ -197,11 +213,13 @@ abbrev canceled : RunningActivity → Bool
 canceled running = running.is_canceled
 
 -- a task that is to be canceled stays so
-canceled_after : (running : RunningActivity) (moment : Moment) → canceled running ≡ true → canceled (after running moment) ≡ true
+canceled_after : (running : RunningActivity) (moment : Moment) → canceled running ≡ true
+    → canceled (after running moment) ≡ true
 canceled_after running (Gives details now) is =
     of_both canceled (may_send running now) (sending running now) (holding running details) running refl
     (of_both canceled running.is_over running (record running { held = Some details }) running refl refl) ∙ is
-canceled_after running (Looks now) is = of_both canceled (has_due running now) (sending running now) running running refl refl ∙ is
+canceled_after running (Looks now) is =
+    of_both canceled (has_due running now) (sending running now) running running refl refl ∙ is
 canceled_after running (Hears details GoOn) is = is
 canceled_after running (Hears details CancelRequested) is = refl
 canceled_after running (Hears details Gone) is = is
@@ -213,7 +231,8 @@ canceled_after_all running [] is = is
 canceled_after_all running (moment ∷ moments) is =
     canceled_after_all (after running moment) moments (canceled_after running moment is)
 
-known_warns : (gone stopped : Bool) → stopped ≡ true → (if gone then Gone else (if stopped then CancelRequested else GoOn)) ≢ GoOn
+known_warns : (gone stopped : Bool) → stopped ≡ true
+    → (if gone then Gone else (if stopped then CancelRequested else GoOn)) ≢ GoOn
 known_warns true stopped is same = cc
 known_warns false true is same = cc
 known_warns false false is same = cc

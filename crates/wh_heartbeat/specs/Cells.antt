@@ -33,10 +33,12 @@ was_canceled (Some running) token = running.is_told && bytes_eq running.token to
 abbrev pub known : RunningActivity → HeartbeatResponse
 known running = if running.is_over then Gone else (if running.is_canceled then CancelRequested else GoOn)
 
--- a heartbeat may be sent now: those of the task have not ended, none is on its way, and the interval since the last one is over
+-- a heartbeat may be sent now: those of the task have not ended, none is on its way, and the interval since the last
+-- one is over
 abbrev pub may_send : RunningActivity → Option ℕ → Bool
 may_send running now =
-    not running.is_over && (not running.is_sending && is_due running.sent now (interval_of running.info.times.heartbeat_timeout))
+    not running.is_over && (not running.is_sending
+    && is_due running.sent now (interval_of running.info.times.heartbeat_timeout))
 
 -- the task from when a heartbeat is sent, until its response is heard; nothing is held
 abbrev pub sending : RunningActivity → Option ℕ → RunningActivity
@@ -95,7 +97,8 @@ held_in (Some running) token = if bytes_eq running.token token then running.held
 
 abbrev pub step_in : Option RunningActivity → List ℕ → List Payload → Option ℕ → HeartbeatStep
 step_in None token details now = Hold Unheard
-step_in (Some running) token details now = if bytes_eq running.token token then step_of running details now else Hold Unheard
+step_in (Some running) token details now =
+    if bytes_eq running.token token then step_of running details now else Hold Unheard
 
 abbrev pub due_in : Option RunningActivity → List ℕ → Option ℕ → Option (List Payload)
 due_in None token now = None

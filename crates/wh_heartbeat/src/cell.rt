@@ -14,8 +14,8 @@ use wh_events::{Items, OutOfMemory, Payload, Text};
 pub enum HeartbeatStep {
     /// It is to be sent now, with these details.
     Send(Items<Payload>),
-    /// It is held: its details are sent later, unless others come before. This is the response to it,
-    /// by what former heartbeats heard.
+    /// It is held: its details are sent later, unless others come before. This is the response to
+    /// it, by what former heartbeats heard.
     Hold(HeartbeatResponse),
 }
 
@@ -325,18 +325,19 @@ impl ActivityCell {
         token_of(&self.running.lock(rt))
     }
 
-    /// Returns a copy of the info of the task that runs, if one does. Returns `OutOfMemory` if there
-    /// was no memory for the copy.
+    /// Returns a copy of the info of the task that runs, if one does. Returns `OutOfMemory` if
+    /// there was no memory for the copy.
     pub fn info<R: Wait>(&self, rt: &R) -> Result<Option<ActivityInfo>, OutOfMemory> {
         info_of(&self.running.lock(rt))
     }
 
     /// Returns what becomes of a heartbeat of the task of this token with these details, at a time
-    /// in milliseconds of a clock, if there is one. The first one is to be sent, and each that comes
-    /// at least an interval after the last one that was sent: four fifths of the Heartbeat Timeout
-    /// and at most a minute, half a minute without one. Any other is held, in place of what was held
-    /// before, and one that comes while another is on its way. Whoever sends it then passes its
-    /// response to `hear`. If the task is not the one that runs, the response is `Unheard`.
+    /// in milliseconds of a clock, if there is one. The first one is to be sent, and each that
+    /// comes at least an interval after the last one that was sent: four fifths of the Heartbeat
+    /// Timeout and at most a minute, half a minute without one. Any other is held, in place of what
+    /// was held before, and one that comes while another is on its way. Whoever sends it then
+    /// passes its response to `hear`. If the task is not the one that runs, the response is
+    /// `Unheard`.
     pub fn next_step<R: Wait>(
         &self,
         rt: &R,
@@ -371,8 +372,8 @@ impl ActivityCell {
     }
 
     /// Ends the heartbeats of the task of this token, if it is the one that runs, and takes what is
-    /// held, so that it is sent before the task's answer. If a heartbeat is on its way, it waits for
-    /// the response first: if there was none, its details are held again.
+    /// held, so that it is sent before the task's answer. If a heartbeat is on its way, it waits
+    /// for the response first: if there was none, its details are held again.
     pub fn take_last<R: Wait>(&self, rt: &R, token: &Text) -> Option<Items<Payload>> {
         let running = self.running.lock(rt);
         let mut running = self
@@ -394,8 +395,8 @@ impl ActivityCell {
         self.heard.notify_all();
     }
 
-    /// Notes that the handler of the task of this token was told that it is to be canceled, if it is
-    /// the one that runs.
+    /// Notes that the handler of the task of this token was told that it is to be canceled, if it
+    /// is the one that runs.
     pub fn note_cancel<R: Wait>(&self, rt: &R, token: &Text) {
         note_cancel(&mut self.running.lock(rt), token.get());
     }

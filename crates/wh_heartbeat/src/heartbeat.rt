@@ -36,7 +36,8 @@ pub trait Heartbeat {
     /// Which info a handler may get of a task.
     ghost tells: { ActivityInfo → Type 0 };
 
-    /// How the heartbeats are once what was held is sent. One that leaves it out says nothing of it.
+    /// How the heartbeats are once what was held is sent. One that leaves it out says nothing of
+    /// it.
     ghost is_flushed: { Self → Type 0 } = { λ heartbeat. Unit {0} };
 
     /// Sends a heartbeat and returns the response. The server may pass the details to a later
@@ -55,9 +56,9 @@ pub trait Heartbeat {
     fn info(&self) -> Result<ActivityInfo, OutOfMemory>
         ensures { IfOk result tells };
 
-    /// Ends the heartbeats of the task that runs, after its handler has returned. Unless the handler
-    /// completed the activity, it first sends the details that are held, if any are, so that a later
-    /// attempt gets the last ones. A handler does not call it.
+    /// Ends the heartbeats of the task that runs, after its handler has returned. Unless the
+    /// handler completed the activity, it first sends the details that are held, if any are, so
+    /// that a later attempt gets the last ones. A handler does not call it.
     fn finish(&mut self, is_completed: bool)
         ensures { is_completed ≡ false → is_flushed self.new };
 }

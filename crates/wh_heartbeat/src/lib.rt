@@ -1,5 +1,6 @@
 //! Heartbeats of activities: a handler sends them while its activity runs, and gets a response to
-//! each. Through them it also learns which attempt it is, and what an earlier one told last.
+//! each. One that comes soon after another is held, and sent later. Through them it also learns
+//! which attempt it is, and what an earlier one told last.
 #![tactic(auto)]
 
 mod activity_info;

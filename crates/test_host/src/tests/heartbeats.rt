@@ -1,5 +1,5 @@
-//! What a worker's cell holds: the task that runs, its attempt, whether it is to be canceled, and its
-//! heartbeats.
+//! What a worker's cell holds: the task that runs, its attempt, whether it is to be canceled, and
+//! its heartbeats.
 
 use std::alloc::Global;
 use std::process::Abort;
@@ -11,8 +11,8 @@ use wh_workflow::text_of;
 
 /// The Heartbeat Timeout of a task, followed by what happens, and what then is sent or told: `beat`
 /// is a heartbeat at a time with details, `look` one of the timer, `heard` the response to the
-/// heartbeat that was sent last, `last` the end of a handler that failed, `end` of one that did not.
-/// At the time `-` there is no clock.
+/// heartbeat that was sent last, `last` the end of a handler that failed, `end` of one that did
+/// not. At the time `-` there is no clock.
 const HEARTBEATS: &str = "\
 1000
 look 0 => nothing
