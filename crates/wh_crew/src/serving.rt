@@ -72,7 +72,9 @@ fn client_of<'x, L>(connection: &'x L, options: &'x LiveOptions) -> Client<'x, L
 ///
 /// The cells are those of the crew's members, in their order: by its cell a handler's
 /// `LiveHeartbeat` knows which task it runs. A member without one never learns that its activity is
-/// to be canceled.
+/// to be canceled. A timer in a thread of its own sends what the heartbeats hold in the cells, once
+/// the interval since the last one that was sent is over (Temporal documentation, "Activity
+/// Heartbeat").
 ///
 /// Queries of runs are answered in one more thread, from a cached run or by replay of the run's
 /// history: they take no slot, and change no count (Temporal documentation, "Queries").
@@ -135,6 +137,7 @@ pub fn serve_live<
         companion,
         &client,
         &connection.queries,
+        cells,
     )?;
     let _ = client.give_up_queue();
     Ok(LiveEnd {
