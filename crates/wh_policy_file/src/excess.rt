@@ -11,7 +11,7 @@ use wh_policies::{ActivityPolicy, ChildPolicy, ContinuePolicy, RetryPolicy};
 #[derive(Clone, Copy, Debug)]
 pub(crate) enum Excess {
     /// The initial interval of retries is above the maximum one. A server refuses each command with
-    /// such a policy, unless it allows a single attempt.
+    /// such a policy.
     InitialInterval,
     /// The Heartbeat Timeout is above the Start-To-Close Timeout, so no heartbeat is ever missed.
     HeartbeatOfAttempt,
