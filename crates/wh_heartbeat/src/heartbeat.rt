@@ -17,7 +17,7 @@ pub enum HeartbeatResponse {
     /// has dropped it, or the connection has closed.
     Gone,
     /// There was no response: the server or the bridge refused the call or gave up. The activity
-    /// goes on, and its handler can send another heartbeat.
+    /// goes on, and the details are held, to be sent again later.
     Unheard,
 }
 
