@@ -314,6 +314,8 @@ def drawing_of(html):
     """The table of a run as a picture by itself: with the styles that it takes from its page, and the ground on which it stands."""
     style, picture = re.search(r"<style>\n(.*?)</style>.*?(<svg class=\"marked\".*?</svg>\n)", html, re.DOTALL).groups()
     taken = [line for line in style.splitlines() if re.match(r":root|@media \(prefers-color-scheme|svg(?: text)?\{", line)]
+    # It is as large as the place that it is given.
+    taken = [re.sub(r"^svg\{.*?(?=font:)", "svg{", line) for line in taken]
     picture = re.sub(r'(<svg )(class="marked" viewBox="[^"]*").*?>', r'\1xmlns="http://www.w3.org/2000/svg" \2>', picture, count=1)
     picture = picture.replace(' id="way-words"', "", 1).replace("<style>\n", "<style>\n" + "\n".join(taken) + "\n", 1)
     return picture.replace("</style>\n", '</style>\n<rect width="100%" height="100%" style="fill:var(--panel)"/>\n', 1)
