@@ -6,11 +6,12 @@ Each page is read by a parser: its tags balance, nothing in it runs or is fetche
 times of the picture are those of the table. Its verdict is the line of `replay`, the event that is marked is the one that the
 line names, and both sides of a difference are those that `replay` tells. Whatever the history holds stands as text: a history
 whose names are hostile has the very tags of the same history with plain names. A run of a table has that table with marks at the
-rows that it took, and no other page has one.
+rows that it took, and no other page has one; docs/canceled_order.svg is that of examples/runs/canceled_order.json.
 
     tests/pages.py [--program PATH]       crates/wfhost/out/wfhost, where it isn't given
     .. --sizes                            prints how large each page is, and how long it took
     .. --shots FOLDER                     then pictures of some pages by Chromium: wide and narrow, light and dark
+    .. --draw                             writes docs/canceled_order.svg
 
 The last line is `N tried, M wrong`."""
 
@@ -30,6 +31,8 @@ from pathlib import Path
 
 TOP = Path(__file__).resolve().parent.parent
 EXAMPLES = TOP / "examples" / "histories"
+RUN = TOP / "examples" / "runs" / "canceled_order.json"
+DRAWING = TOP / "docs" / "canceled_order.svg"
 VOID = {"meta"}
 KNOWN = set(
     "html head meta title style body header h1 h2 h3 p dl div dt dd main section pre code svg desc defs pattern line"
@@ -307,6 +310,17 @@ def judge_way(page):
     return wrong
 
 
+def drawing_of(html):
+    """The table of a run as a picture by itself: with the styles that it takes from its page, and the ground on which it stands."""
+    style, picture = re.search(r"<style>\n(.*?)</style>.*?(<svg class=\"marked\".*?</svg>\n)", html, re.DOTALL).groups()
+    taken = [line for line in style.splitlines() if re.match(r":root|@media \(prefers-color-scheme|svg(?: text)?\{", line)]
+    # It is as large as the place that it is given.
+    taken = [re.sub(r"^svg\{.*?(?=font:)", "svg{", line) for line in taken]
+    picture = re.sub(r'(<svg )(class="marked" viewBox="[^"]*").*?>', r'\1xmlns="http://www.w3.org/2000/svg" \2>', picture, count=1)
+    picture = picture.replace(' id="way-words"', "", 1).replace("<style>\n", "<style>\n" + "\n".join(taken) + "\n", 1)
+    return picture.replace("</style>\n", '</style>\n<rect width="100%" height="100%" style="fill:var(--panel)"/>\n', 1)
+
+
 def uneven(record):
     """A history of the sample Nap, which starts one timer, with this record of its first task."""
     history = History()
@@ -442,6 +456,7 @@ def main():
     parser.add_argument("--program", default=str(TOP / "crates" / "wfhost" / "out" / "wfhost"))
     parser.add_argument("--sizes", action="store_true")
     parser.add_argument("--shots", type=Path)
+    parser.add_argument("--draw", action="store_true")
     words = parser.parse_args()
     program = Program(words.program)
     if "--html" not in program.run("explain", "--help").stdout.decode():
@@ -491,6 +506,13 @@ def main():
             if one.stdout or (one.returncode, one.stderr) != (other.returncode, other.stderr):
                 wrong += 1
                 print(f"pages: {bad}: {one} in place of {other}", flush=True)
+    drawing = drawing_of(program.run("explain", "--html", RUN).stdout.decode())
+    if words.draw:
+        DRAWING.write_text(drawing)
+    count += 1
+    if DRAWING.read_text() != drawing:
+        wrong += 1
+        print(f"pages: {DRAWING} is not the picture of {RUN}: --draw writes it", flush=True)
     if words.shots and shutil.which("chromium"):
         shoot({name: pages[name] for name in ("nap", "racer-id-6", "crowded", "hostile", "big", "table") if name in pages}, words.shots)
     print(f"{count} tried, {wrong} wrong")

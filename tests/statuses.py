@@ -1,7 +1,8 @@
 #!/usr/bin/env python3
 """Starts the built program in the ways that no contract speaks of, and compares its status and both streams with what
-docs/USAGE.md and docs/DEFINITIONS.md say. The tables of rows stand in the folder statuses/, by their subjects. It is a
-part of `./test`: its last line is `N tried, M wrong`, and its status is 1 where something is wrong."""
+docs/USAGE.md and docs/DEFINITIONS.md say. The commands that pages show are run as they stand there. The tables of rows stand in
+the folder statuses/, by their subjects. It is a part of `./test`: its last line is `N tried, M wrong`, and its status is 1 where
+something is wrong."""
 
 import argparse
 import os
@@ -11,7 +12,7 @@ from functools import partial
 from pathlib import Path
 
 from statuses import (
-    command_lines, counts, files, policies, progress, queries, reports, services, streams, tables, values, views,
+    command_lines, counts, files, policies, progress, queries, reports, services, shown, streams, tables, values, views,
 )
 from statuses.rooms import Room, TOP
 from statuses.runs import compared
@@ -34,6 +35,7 @@ TABLES = [
     policies.policies,
     streams.sizes,
     streams.streams,
+    shown.shown,
 ]
 # These start the program themselves.
 MEASURES = [counts.kept_counts, progress.terminals, services.cache_options, services.worker_options, services.short_memory]
