@@ -5,9 +5,10 @@ with it, under all trouble and kills; and with a mistake now and then, the loop 
 
 import subprocess
 import sys
-from pathlib import Path
+from functools import partial
 
-TOP = Path(__file__).resolve().parent.parent
+from rows import TOP, try_rows, words_of
+
 LOOPS, WORKER = TOP / "tests/loops.py", f"{sys.executable} {TOP / 'tests/small_worker.py'}"
 LIMIT_SECONDS = 300
 # The words of a loop, the mistake that its worker makes, and what the loop has to say then.
@@ -38,16 +39,12 @@ def said(words, mistake):
     return subprocess.run(command, capture_output=True, text=True, timeout=LIMIT_SECONDS).stdout
 
 
-def main():
-    wrong = 0
-    for words, mistake, wanted in ROWS:
-        found = said(words, mistake)
-        if wanted not in found:
-            wrong += 1
-            print(f"{words} {mistake}: no `{wanted}` in\n{found}")
-    print(f"{len(ROWS)} tried, {wrong} wrong")
-    return 1 if wrong else 0
+def fault_of(words, mistake, wanted):
+    """What is wrong with what a loop says."""
+    found = said(words, mistake)
+    return "" if wanted in found else f"no `{wanted}` in\n{found}"
 
 
 if __name__ == "__main__":
-    sys.exit(main())
+    rows = ((f"{words} {mistake}".strip(), partial(fault_of, words, mistake, wanted)) for words, mistake, wanted in ROWS)
+    sys.exit(try_rows(rows, words_of(__doc__).parse_args()))
