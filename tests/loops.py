@@ -18,7 +18,6 @@ import argparse
 import json
 import random
 import re
-import shutil
 import subprocess
 import sys
 import tempfile
@@ -27,7 +26,8 @@ from concurrent.futures import ThreadPoolExecutor
 from itertools import product
 from pathlib import Path
 
-from support import BRIDGE, ORDERS, PROGRAM, take_packages
+from rows import ORDERS, PROGRAM, need, try_rows, words_of
+from support import BRIDGE, take_packages
 
 from handlers import Till
 from peers import Settings
@@ -265,7 +265,7 @@ def add_options_of_kinds(parser):
 
 def options():
     """The command line."""
-    parser = argparse.ArgumentParser(description=__doc__, formatter_class=argparse.RawDescriptionHelpFormatter)
+    parser = words_of(__doc__)
     parser.add_argument("--runs", type=int, default=200, help="runs that are started in each loop")
     parser.add_argument("--open", type=int, default=100, help="how many of them are open at once")
     which = parser.add_mutually_exclusive_group()
@@ -307,8 +307,7 @@ def options():
     if found.kinds and not found.program:
         parser.error("--kinds wants the program that has them: --program PROGRAM")
     found.program = found.program or [str(ORDERS if found.orders else PROGRAM)]
-    if not shutil.which(found.program[0]):
-        parser.error(f"{found.program[0]} is not built")
+    need(parser, found.program[0])
     return found
 
 
@@ -324,11 +323,11 @@ def main():
     if asked.keep:
         Path(asked.keep).mkdir(parents=True, exist_ok=True)
     if asked.part and not asked.is_part:
-        return all_parts(asked)
+        return try_rows(all_parts(asked), asked)
     with tempfile.TemporaryDirectory() as folder:
         asked.policies = Path(folder, "policies.toml")
         asked.policies.write_text(POLICIES)
-        return all_loops(asked)
+        return try_rows(all_loops(asked), asked)
 
 
 def parts_of(asked):
@@ -347,30 +346,22 @@ def run_part(words):
 
 
 def all_parts(asked):
-    """Runs all loops in parts, some at once."""
-    begun, tried, wrong = time.monotonic(), 0, 0
+    """Runs all loops in parts, some at once: yields each part."""
+    begun = time.monotonic()
     with ThreadPoolExecutor(asked.at_once) as threads:
-        for lines in threads.map(run_part, parts_of(asked)):
-            tried, wrong = tried + 1, wrong + (lines[-1:] != ["1 tried, 0 wrong"])
+        for number, lines in enumerate(threads.map(run_part, parts_of(asked)), 1):
             print("\n".join(lines[:-1]), flush=True)
+            yield f"part {number}", "" if lines[-1:] == ["1 tried, 0 wrong"] else f"it ends with {lines[-1:]}"
     print(f"{asked.runs} runs in parts of {asked.part}, {asked.at_once} at once: {time.monotonic() - begun:.0f} s")
-    print(f"{tried} tried, {wrong} wrong")
-    return 1 if wrong else 0
 
 
 def all_loops(asked):
-    tried = wrong = 0
+    """Runs all loops: yields each, with what is wrong."""
     for seed, workers, cache in product(asked.seeds, asked.workers, asked.cache):
         loop = Loop(asked, seed, workers, cache)
         faults = loop.run()
-        tried, wrong = tried + 1, wrong + bool(faults)
         print(loop.line(), flush=True)
-        for fault in faults[:20]:
-            print(f"  {fault}", flush=True)
-        if len(faults) > 20:
-            print(f"  and {len(faults) - 20} more", flush=True)
-    print(f"{tried} tried, {wrong} wrong")
-    return 1 if wrong else 0
+        yield loop.title, faults
 
 
 if __name__ == "__main__":

@@ -6,9 +6,10 @@ line is `N tried, M wrong`, and the status is 1 where one is wrong."""
 
 import subprocess
 import sys
-from pathlib import Path
+from functools import partial
 
-TOP = Path(__file__).resolve().parent.parent
+from rows import TOP, try_rows, words_of
+
 sys.path.insert(1, str(TOP / "standin"))
 sys.dont_write_bytecode = True
 
@@ -137,21 +138,19 @@ def said(words, mistake):
     return subprocess.run(command, capture_output=True, text=True, timeout=LIMIT_SECONDS).stdout
 
 
-def main():
-    wrong = 0
-    for words, mistake, wanted in ROWS:
-        found = said(words, mistake)
-        if wanted not in found:
-            wrong += 1
-            print(f"{words} {mistake}: no `{wanted}` in\n{found}")
-    for words, wanted in TALKS:
-        found = talked(words)
-        if not found.startswith(wanted) or bool(found) != bool(wanted):
-            wrong += 1
-            print(f"{words}: not `{wanted}`, but\n{found}")
-    print(f"{len(ROWS) + len(TALKS)} tried, {wrong} wrong")
-    return 1 if wrong else 0
+def fault_of(words, mistake, wanted):
+    """What is wrong with what a loop says."""
+    found = said(words, mistake)
+    return "" if wanted in found else f"no `{wanted}` in\n{found}"
+
+
+def fault_of_talk(words, wanted):
+    """What is wrong with what a talk comes to."""
+    found = talked(words)
+    return "" if found.startswith(wanted) and bool(found) == bool(wanted) else f"not `{wanted}`, but\n{found}"
 
 
 if __name__ == "__main__":
-    sys.exit(main())
+    rows = [(f"{words} {mistake}".strip(), partial(fault_of, words, mistake, wanted)) for words, mistake, wanted in ROWS]
+    rows += [(words, partial(fault_of_talk, words, wanted)) for words, wanted in TALKS]
+    sys.exit(try_rows(rows, words_of(__doc__).parse_args()))
