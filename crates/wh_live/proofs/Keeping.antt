@@ -1,5 +1,5 @@
 -- What a source keeps while it answers a task.
-use Rattle.std.proofs.Common.{◌≡◌, ◌∙◌, ℕ, ◌≤◌, List, [], ◌∷◌, ◌++◌, Result, Ok, Err, append_assoc, ap, arith, refl, subst, sym}
+use Rattle.std.proofs.Common.{◌≡◌, ◌∙◌, ℕ, ◌≤◌, [], ◌∷◌, ◌++◌, Result, Ok, Err, append_assoc, ap, arith, subst, sym}
 use Rattle.std.proofs.lemmas.List.{append-nil}
 use Rattle.std.specs.Prelude.{OnErr, OnOk}
 use Rattle.wh_client.specs.Calls.{Gives}

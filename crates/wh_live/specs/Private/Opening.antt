@@ -18,7 +18,6 @@ use Rattle.wh_live.specs.declared.tasks.OpenTask.{OpenTask}
 use Rattle.wh_responses.specs.declared.response.PolledActivity.{PolledActivity}
 use Rattle.wh_commands.specs.declared.names.WorkerNames.{WorkerNames}
 use Rattle.wh_responses.specs.declared.response.ActivityPoll.{ActivityPoll}
-use Rattle.wh_responses.specs.declared.response.ActivityPoll.TheVariants as ActivityPoll
 use Rattle.wh_requests.specs.Requests.{poll_activity, poll_workflow}
 use Rattle.wh_responses.specs.Responses.{Task}
 use Rattle.wh_responses.specs.Responses as read
