@@ -106,6 +106,17 @@ def slow(seconds):
     return fault
 
 
+def late(event):
+    """The server handles the call, and the response waits for an event."""
+
+    def fault(call):
+        answered = call.handle()
+        event.wait(MOST_SECONDS)
+        return answered
+
+    return fault
+
+
 def hangs(call):
     """There is no response until the caller gives up."""
     wait_for_caller(call.context)

@@ -11,7 +11,8 @@ stand-in has counted. Each loop prints a line; the last line is `N tried, M wron
     tests/loops.py --runs 30000 --mixed
 
 The loops of a seed are not the same twice, since the workers' threads are not. Whoever looks for the cause of a wrong one
-finds its histories and what its workers said in the folder that is named by --keep.
+finds below a wrong answer what came of the last tasks of its run, and in the folder that is named by --keep the histories and
+what the workers said.
 """
 
 import argparse
@@ -285,8 +286,8 @@ def options():
     parser.add_argument("--mixed", action="store_true", help=f"for long loops: --tables --till --queries --kill {KILL_SECONDS:g} --processes 2 "
                         f"--part {PART} --at-once {AT_ONCE}")
     parser.add_argument("--part", type=int, default=0, help="a loop of more runs is done in parts of so many, each with a seed of its own")
-    parser.add_argument("--at-once", type=int, default=1, help="how many loops or parts are at work at once, each in a process of its own; "
-                        "most of their time goes to waits")
+    parser.add_argument("--at-once", type=int, help="how many loops or parts are at work at once, each in a process of its own (otherwise "
+                        "1); most of their time goes to waits")
     parser.add_argument("--grpc", action="store_true", help="through the bridge, over gRPC")
     parser.add_argument("--bridge", default=BRIDGE, help="with --grpc, another bridge")
     parser.add_argument("--away", type=float, default=3, help="with --grpc, for how many seconds the server is away each time")
@@ -303,6 +304,7 @@ def options():
         take_packages("--grpc needs")
     if found.mixed:
         mix(found)
+    found.at_once = found.at_once or 1
     found.limit = found.limit or max(LIMIT_SECONDS, RUN_SECONDS * found.runs)
     if found.kinds and not found.program:
         parser.error("--kinds wants the program that has them: --program PROGRAM")
@@ -315,7 +317,7 @@ def mix(asked):
     """Sets what --mixed asks for, where nothing else is asked for."""
     asked.tables, asked.till, asked.queries = True, asked.till or [str(ORDERS)], asked.queries or QUERIES
     asked.kill, asked.processes = asked.kill or KILL_SECONDS, max(asked.processes, 2)
-    asked.part, asked.at_once = asked.part or PART, max(asked.at_once, AT_ONCE)
+    asked.part, asked.at_once = asked.part or PART, asked.at_once or AT_ONCE
 
 
 def main():
