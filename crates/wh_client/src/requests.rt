@@ -1,11 +1,12 @@
 //! Writes and sends the requests that answer tasks.
 
 ghost use Rattle.std.specs.Prelude.{IfErr, IfOk, OnOk, [], codes};
+ghost use Rattle.serde_json.specs.View.{view};
 ghost use Rattle.wh_commands.specs.CarryingOver.{carried_seen};
-ghost use Rattle.wh_client.specs.Refusals.{HasItsStatus};
+ghost use Rattle.wh_client.specs.Refusals.{HasItsStatus, IsFaultBy};
 ghost use Rattle.wh_requests.specs.Requests.{activity_completed, no_queries, query_failed};
 ghost use Rattle.wh_requests.specs.Requests.{workflow_completed, workflow_failed};
-ghost use Rattle.wh_client.specs.Requests.{GivesUpQueue, IsAnswered, IsRequest, IsTaken, WritesRequest};
+ghost use Rattle.wh_client.specs.Requests.{GivesUpQueue, IsAnswered, IsRequest, IsTaken, KeepsQueue, WritesRequest};
 
 use crate::asking::{AskFault, ask};
 use crate::client::Client;
@@ -103,6 +104,7 @@ impl<L: Connection> Client<'_, L> {
     /// is known: a refusal has the status of its code.
     pub fn send(&self, request: Request) -> Result<bool, AskFault>
         ensures answered { IfOk result (IsAnswered L.gives request) }
+        ensures failed { IfErr result (IsFaultBy (L.fails request.method.now (view request.params))) }
         ensures refused { IfErr result HasItsStatus }
     {
         let Request { method, params } = request;
@@ -117,6 +119,8 @@ impl<L: Connection> Client<'_, L> {
     pub fn refuse_query(&self, token: &Text) -> Result<(), AskFault>
         ensures sent { OnOk result (IsTaken L.gives (codes "RespondQueryTaskCompleted")
             (query_failed self.now.options.now.names token.now no_queries)) }
+        ensures failed { IfErr result (IsFaultBy (L.fails (codes "RespondQueryTaskCompleted")
+            (query_failed self.now.options.now.names token.now no_queries))) }
         ensures refused { IfErr result HasItsStatus }
     {
         let names = &self.options.names;
@@ -133,6 +137,8 @@ impl<L: Connection> Client<'_, L> {
     pub fn give_up_queue(&self) -> Result<(), AskFault>
         ensures given_up { OnOk result
             (GivesUpQueue L.gives self.now.options.now.names self.now.options.now.sticky) }
+        ensures failed { IfErr result
+            (KeepsQueue L.fails self.now.options.now.names self.now.options.now.sticky) }
         ensures refused { IfErr result HasItsStatus }
     {
         let Some(_timeout) = self.options.sticky else {
