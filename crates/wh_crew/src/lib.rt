@@ -7,6 +7,7 @@ mod heartbeats;
 mod hosting;
 pub mod laws;
 mod serving;
+mod task_queries;
 
 pub use heartbeats::LiveHeartbeat;
 pub use serving::{LiveEnd, read_input, serve_live};

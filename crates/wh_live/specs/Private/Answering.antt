@@ -1,12 +1,16 @@
 -- What is sent for a task, and what becomes of it.
-use Rattle.std.specs.Prelude.{◌≡◌, ◌⊎◌, ◌<◌, ℕ, List, [], codes, not, Bool, true, false, Option, Some, None, Result, Ok, Err, string_bytes, if◌then◌else◌}
+use Rattle.std.specs.Prelude.{◌≡◌, ◌⊎◌, ◌<◌, ℕ, List, codes, not, Bool, true, false, Option, Some, None, Result, Ok, Err, string_bytes, if◌then◌else◌}
 use Rattle.std.specs.List.{list_any}
 use Rattle.std.specs.Str.{bytes_eq}
-use Rattle.serde_json.specs.Data.{Data}
-use Rattle.wh_client.specs.Calls.{Gives}
+use Rattle.serde_json.specs.Data.{Data, Members, no_members, member}
+use Rattle.serde_json.specs.View.{members_view, view}
+use Rattle.wh_client.specs.Calls.{Fails, Gives}
 use Rattle.wh_client.specs.Codes.{accepted_answer, keeps_run}
 use Rattle.wh_live.specs.Answers.{cause_of, receipt_of}
 use Rattle.wh_client.specs.Histories.{HandsOn}
+use Rattle.wh_client.specs.Refusals.{IsFaultBy, IsTooLarge}
+use Rattle.wh_client.specs.Requests.{IsAcknowledged, WritesRequest}
+use Rattle.wh_client.specs.declared.requests.Request.{Request}
 use Rattle.wh_client.specs.declared.asking.AskFault.{AskFault}
 use Rattle.wh_client.specs.declared.asking.AskFault.TheVariants as asked
 use Rattle.wh_client.specs.declared.codes.Receipt.{Receipt}
@@ -31,17 +35,49 @@ use Rattle.wh_live.specs.declared.tasks.OpenTask.{OpenTask}
 
 -- ---- What is sent
 
--- the server returned a result for the completion of the task with these commands, and with what its run carries over;
--- by that the task is not discarded
+-- the server returned a result for the completion of the task with these commands and results of queries, and with what
+-- its run carries over; by that the task is not discarded
 pub record CompletesWith (gives : Gives) (options : LiveOptions) (task : OpenTask) (commands : List Command)
-    (events : List Event) (carried : Carried) : Type 0 where
+    (events : List Event) (results : Members) (carried : Carried) : Type 0 where
   pub params : Data
   pub written :
-      workflow_completed options.names task.token commands events [] options.sticky options.policies carried
+      workflow_completed options.names task.token commands events results options.sticky options.policies carried
       ≡ Ok params
   pub result : Data
   pub given : gives (codes "RespondWorkflowTaskCompleted") params result
   pub kept : is_discarded result ≡ false
+
+-- which results the queries of a task may get, by the events of its run
+abbrev pub GivesResults : Type 1
+GivesResults = List Event → Members → Members → Type 0
+
+-- these are results of the queries of a task; without queries there are none
+abbrev pub HasResults : GivesResults → List Event → Members → Members → Type 0
+HasResults gives_results events no_members results = results ≡ no_members
+HasResults gives_results events (member id query queries) results =
+    gives_results events (member id query queries) results
+
+-- the request was refused because it is larger than the server accepts
+pub record IsOversized (fails : Fails) (request : Request) : Type 0 where
+  pub fault : AskFault
+  pub came : IsFaultBy (fails request.method.now (view request.params)) fault
+  pub large : IsTooLarge fault
+
+-- the server returned a result for the request; or it was too large, and the task was completed without results
+abbrev pub SendsAnswered : Gives → Fails → LiveOptions → OpenTask → Request → List Command → List Event → Carried → Type 0
+SendsAnswered gives fails options task request commands events carried = IsAcknowledged gives request
+    ⊎ (IsOversized fails request × CompletesWith gives options task commands events no_members carried)
+
+-- the server returned a result for the completion of the task with these commands and the results of its queries; or for
+-- the one without these results, since that with them was too large
+pub record CompletesAnswered (gives_results : GivesResults) (gives : Gives) (fails : Fails) (options : LiveOptions)
+    (task : OpenTask) (commands : List Command) (events : List Event) (carried : Carried) : Type 0 where
+  pub results : Members
+  pub has : HasResults gives_results events (members_view task.queries.entries) results
+  pub request : Request
+  pub written : WritesRequest (Ok request) (codes "RespondWorkflowTaskCompleted")
+      (workflow_completed options.names task.token commands events results options.sticky options.policies carried)
+  pub sent : SendsAnswered gives fails options task request commands events carried
 
 -- what a run carries over if it is continued as a new one: what its first event says
 abbrev pub IsCarried : Gives → WorkerNames → RunKey → Bool → Carried → Type 0
@@ -49,10 +85,10 @@ IsCarried gives names run false carried = carried ≡ nothing_carried
 IsCarried gives names run true carried = HandsOn gives names run carried
 
 -- the server returned a result for the completion of the task with these commands
-abbrev pub CompletesTask : Gives → LiveOptions → OpenTask → List Command → List Event → Type 0
-CompletesTask gives options task commands events =
+abbrev pub CompletesTask : GivesResults → Gives → Fails → LiveOptions → OpenTask → List Command → List Event → Type 0
+CompletesTask gives_results gives fails options task commands events =
     (carried : Carried) × IsCarried gives options.names task.run (list_any continues commands) carried
-    × CompletesWith gives options task commands events carried
+    × CompletesAnswered gives_results gives fails options task commands events carried
 
 -- the server returned a result for the failure of the task of a token with a cause
 pub record FailsTask (gives : Gives) (names : WorkerNames) (token : List ℕ) (cause : FailedCause) : Type 0 where
@@ -61,9 +97,11 @@ pub record FailsTask (gives : Gives) (names : WorkerNames) (token : List ℕ) (c
   pub given : gives (codes "RespondWorkflowTaskFailed") (workflow_failed names token cause message) result
 
 -- the server returned a result for this answer to the task
-abbrev pub HasAnswer : Gives → LiveOptions → OpenTask → Answer → List Event → Type 0
-HasAnswer gives options task (Complete commands) events = CompletesTask gives options task commands events
-HasAnswer gives options task (Fail fault) events = FailsTask gives options.names task.token (cause_of fault)
+abbrev pub HasAnswer : GivesResults → Gives → Fails → LiveOptions → OpenTask → Answer → List Event → Type 0
+HasAnswer gives_results gives fails options task (Complete commands) events =
+    CompletesTask gives_results gives fails options task commands events
+HasAnswer gives_results gives fails options task (Fail fault) events =
+    FailsTask gives options.names task.token (cause_of fault)
 
 -- only a failure is withheld, and not that of the first attempt
 abbrev pub IsKeptBack : OpenTask → Answer → Type 0
@@ -71,12 +109,12 @@ IsKeptBack task (Complete commands) = ⊥
 IsKeptBack task (Fail fault) = 1 < task.attempt
 
 -- the open task has this name, and the server returned a result for this answer to it
-pub record AnswersOpen (gives : Gives) (options : LiveOptions) (open_task : Option OpenTask) (name : TaskName)
-    (answer : Answer) (events : List Event) : Type 0 where
+pub record AnswersOpen (gives_results : GivesResults) (gives : Gives) (fails : Fails) (options : LiveOptions)
+    (open_task : Option OpenTask) (name : TaskName) (answer : Answer) (events : List Event) : Type 0 where
   pub task : OpenTask
   pub is : open_task ≡ Some task
   pub named : task.name ≡ name
-  pub answered : HasAnswer gives options task answer events
+  pub answered : HasAnswer gives_results gives fails options task answer events
 
 -- ---- What becomes of it
 
