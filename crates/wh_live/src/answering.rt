@@ -1,20 +1,22 @@
 //! Answers workflow tasks, and sends and counts answers.
 
 ghost use Rattle.std.specs.Prelude.{◌≡◌, ◌≢◌, ◌≤◌, ◌<◌, ◌↔◌, ◌++◌, ◌∷◌, [], true, false, None, Ok, IsTrue, IsOk};
-ghost use Rattle.std.specs.Prelude.{IfOk, IsOkAnd, OnOk, OnErr};
+ghost use Rattle.std.specs.Prelude.{IfOk, MatchResult, OnOk, OnErr};
 ghost use Rattle.serde_json.specs.View.{members_view};
 ghost use Rattle.wh_client.specs.Codes.{is_taken};
-ghost use Rattle.wh_client.specs.Requests.{IsAcknowledged};
-ghost use Rattle.wh_client.specs.declared.codes.Receipt.TheVariants.{Acknowledged, Withheld};
+ghost use Rattle.wh_client.specs.declared.codes.Receipt.TheVariants.{Acknowledged, NoMemory, Replaced, Withheld};
 ghost use Rattle.wh_commands.specs.CarryingOver.{carried_seen};
+ghost use Rattle.wh_commands.specs.declared.fault.RequestFault.TheVariants.{OutOfMemory as Unwritten};
 ghost use Rattle.wh_tasks.specs.declared.source.Sent.TheVariants.{Workflow as OfWorkflow};
 ghost use Rattle.wh_tasks.specs.Source.{FailsOnly};
 ghost use Rattle.wh_live.specs.Answers.{cause_of, receipt_of};
 ghost use Rattle.wh_live.specs.Private.Answering.{AnswersOpen, CompletesTask, CompletesWith, FailsTask, HasAnswer};
-ghost use Rattle.wh_live.specs.Private.Answering.{IsKeptBack, IsReplaced, counts_fault};
+ghost use Rattle.wh_live.specs.Private.Answering.{IsAnswerReceipt, IsKeptBack, IsOpenReceipt, IsReplaced, Settles};
+ghost use Rattle.wh_live.specs.Private.Answering.{counts_fault};
 ghost use Rattle.wh_live.specs.Private.Answering.{is_reported};
 ghost use Rattle.wh_live.specs.Private.Answering.{receipt_of_sent, reports_refusal, run_use};
 ghost use Rattle.wh_live.specs.Private.Counting.{settled};
+ghost use Rattle.wh_live.specs.Private.Receipts.{IsRequestReceipt};
 
 use crate::journals::Journal;
 use crate::query_handler::QueryHandler;
@@ -132,8 +134,8 @@ pub(crate) fn receive<L: Connection>(
     sent: Result<bool, AskFault>,
 ) -> Receipt
     ensures is { result ≡ receipt_of_sent sent }
-    ensures acknowledged { result ≡ Acknowledged → sent ≡ Ok false }
     ensures sent { result ≢ Withheld }
+    ensures kept { result ≢ Replaced }
 {
     match sent {
         Ok(is_discarded) => accepted_answer(is_discarded),
@@ -152,8 +154,10 @@ pub(crate) fn send_written<L: Connection>(
     task: &OpenTask,
     request: Result<Request, OutOfMemory>,
 ) -> Receipt
-    ensures acknowledged { result ≡ Acknowledged → IsOkAnd request (λ request. IsAcknowledged L.gives request) }
+    ensures received { MatchResult request
+        (λ request. IsRequestReceipt L.gives L.fails request result) (λ _. result ≡ NoMemory) }
     ensures sent { result ≢ Withheld }
+    ensures kept { result ≢ Replaced }
 {
     match request {
         Ok(request) => {
@@ -172,8 +176,9 @@ fn fail<L: Connection>(
     message: &str,
 ) -> Receipt
     ensures later { (result ≡ Withheld) ↔ (1 < task.now.attempt) }
-    ensures sent { result ≡ Acknowledged →
-        FailsTask L.gives client.now.options.now.names task.now.token cause }
+    ensures sent { result ≢ Withheld →
+        FailsTask L.gives L.fails client.now.options.now.names task.now.token cause result }
+    ensures kept { result ≢ Replaced }
 {
     report_of(client, task, message);
     if !sends_failure(task.attempt) {
@@ -186,8 +191,9 @@ fn fail<L: Connection>(
 /// Fails a workflow task because of a fault of replay.
 fn fail_replay<L: Connection>(client: &Client<'_, L>, task: &OpenTask, fault: &Fault) -> Receipt
     ensures later { result ≡ Withheld → 1 < task.now.attempt }
-    ensures sent { result ≡ Acknowledged →
-        FailsTask L.gives client.now.options.now.names task.now.token (cause_of fault.now) }
+    ensures sent { result ≢ Withheld →
+        FailsTask L.gives L.fails client.now.options.now.names task.now.token (cause_of fault.now) result }
+    ensures kept { result ≢ Replaced }
 {
     match replay_text(client.allocator(), fault) {
         Ok(text) => fail(client, task, cause_of(fault), text.as_str()),
@@ -231,7 +237,7 @@ fn send_completed<L: Connection>(
     task: &OpenTask,
     request: Request,
 ) -> Receipt
-    ensures acknowledged { result ≡ Acknowledged → IsAcknowledged L.gives request }
+    ensures received { IsRequestReceipt L.gives L.fails request result }
     ensures sent { result ≢ Withheld }
 {
     match client.send(request) {
@@ -249,7 +255,8 @@ pub(crate) fn replace_unwritten<L: Connection>(
     task: &OpenTask,
     fault: &RequestFault,
 ) -> Receipt
-    ensures { IsReplaced result }
+    ensures replaced { IsReplaced result }
+    ensures memory { fault.now ≡ Unwritten → result ≡ NoMemory }
 {
     match fault {
         RequestFault::OutOfMemory => Receipt::NoMemory,
@@ -273,8 +280,8 @@ pub(crate) fn complete_with<L: Connection>(
     carried: &CarriedOver,
 ) -> Receipt
     ensures sent { result ≢ Withheld }
-    ensures acknowledged { result ≡ Acknowledged → CompletesWith L.gives client.now.options.now
-        task.now commands.now events.now (members_view results.entries) (carried_seen carried.now) }
+    ensures received { CompletesWith L.gives L.fails client.now.options.now task.now commands.now
+        events.now (members_view results.entries) (carried_seen carried.now) result }
 {
     match client.completed(&task.token, commands, events, results, carried) {
         Ok(request) => send_completed(client, task, request),
@@ -293,8 +300,8 @@ fn complete<L: Connection, Q: QueryHandler>(
 ) -> Receipt
     requires { Q.ready query_handler.now }
     ensures sent { result ≢ Withheld }
-    ensures acknowledged { result ≡ Acknowledged → CompletesTask (Q.gives_results query_handler.now)
-        L.gives L.fails client.now.options.now task.now commands.now events.now }
+    ensures received { CompletesTask (Q.gives_results query_handler.now) L.gives L.fails
+        client.now.options.now task.now commands.now events.now result }
 {
     if !continues_as_new(commands) {
         let carried = CarriedOver::nothing();
@@ -318,8 +325,8 @@ fn respond<L: Connection, Q: QueryHandler>(
 ) -> Receipt
     requires { Q.ready query_handler.now }
     ensures kept_back { result ≡ Withheld → IsKeptBack task.now answer.now }
-    ensures acknowledged { result ≡ Acknowledged → HasAnswer (Q.gives_results query_handler.now)
-        L.gives L.fails client.now.options.now task.now answer.now events.now }
+    ensures received { result ≢ Withheld → HasAnswer (Q.gives_results query_handler.now)
+        L.gives L.fails client.now.options.now task.now answer.now events.now result }
 {
     match answer {
         Answer::Complete(commands) => complete(client, query_handler, task, commands.get(), events),
@@ -368,17 +375,18 @@ fn answer_open<L: Connection, Q: QueryHandler>(
     steps: u64,
 ) -> Receipt
     requires { Q.ready query_handler.now }
-    ensures { result ≡ Acknowledged → AnswersOpen (Q.gives_results query_handler.now)
-        L.gives L.fails client.now.options.now current.now name answer.now events.now }
+    ensures { IsOpenReceipt (IsAnswerReceipt (Q.gives_results query_handler.now)
+        L.gives L.fails client.now.options.now answer.now events.now) current.now name result }
 {
-    match current {
-        Some(task) if task.name == name => {
-            let receipt = respond(client, query_handler, task, answer, events);
-            log_workflow(client, task, answer, events, steps, receipt);
-            receipt
-        }
-        _ => Receipt::Lost,
+    let Some(task) = current else {
+        return Receipt::Lost;
+    };
+    if task.name != name {
+        return Receipt::Lost;
     }
+    let receipt = respond(client, query_handler, task, answer, events);
+    log_workflow(client, task, answer, events, steps, receipt);
+    receipt
 }
 
 /// Answers the workflow task of a name, and records the answer if it counts as taken. The run may
@@ -397,8 +405,11 @@ pub(crate) fn answer_workflow<L: Connection, Q: QueryHandler>(
     requires { Q.ready query_handler.now }
     ensures sent { OnOk result.sent (taken.new.items ≡ taken.old.items ++ (name, OfWorkflow answer.now) ∷ []) }
     ensures unsent { OnErr result.sent (taken.new.items ≡ taken.old.items) }
-    ensures run { result.run ≡ RunUse.Cache → AnswersOpen (Q.gives_results query_handler.now)
-        L.gives L.fails client.now.options.now current name answer.now events.now }
+    ensures run { result.run ≡ RunUse.Cache → AnswersOpen (IsAnswerReceipt (Q.gives_results query_handler.now)
+        L.gives L.fails client.now.options.now answer.now events.now) current name Acknowledged }
+    ensures settled { Settles (IsOpenReceipt (IsAnswerReceipt (Q.gives_results query_handler.now)
+        L.gives L.fails client.now.options.now answer.now events.now) current name)
+        result.sent journal.old.tally journal.new.tally }
     ensures failures { FailsOnly result.sent journal.old.tally.failures journal.new.tally.failures }
 {
     let Ok(copy) = answer.try_copy(client.allocator()) else {

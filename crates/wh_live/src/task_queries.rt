@@ -1,10 +1,12 @@
 //! Completes workflow tasks with the results of the queries that came with them.
 
-ghost use Rattle.std.specs.Prelude.{◌≡◌, ◌≢◌, IfOk};
-ghost use Rattle.serde_json.specs.View.{members_view};
-ghost use Rattle.wh_client.specs.declared.codes.Receipt.TheVariants.{Acknowledged, Withheld};
+ghost use Rattle.std.specs.Prelude.{◌≢◌, IfOk};
+ghost use Rattle.serde_json.specs.Data.{no_members};
+ghost use Rattle.serde_json.specs.View.{members_view, view};
+ghost use Rattle.wh_client.specs.declared.codes.Receipt.TheVariants.{Withheld};
 ghost use Rattle.wh_commands.specs.CarryingOver.{carried_seen};
-ghost use Rattle.wh_live.specs.Private.Answering.{CompletesAnswered, HasResults, SendsAnswered};
+ghost use Rattle.wh_live.specs.Private.Answering.{CompletesAnswered, CompletesWith, HasResults};
+ghost use Rattle.wh_live.specs.Private.Answering.{IsReceiptOrSmaller};
 
 use crate::answering::{complete_with, receive, replace_unwritten, report_of};
 use crate::query_handler::QueryHandler;
@@ -52,8 +54,9 @@ fn send_answered<L: Connection>(
     carried: &CarriedOver,
 ) -> Receipt
     ensures sent { result ≢ Withheld }
-    ensures acknowledged { result ≡ Acknowledged → SendsAnswered L.gives L.fails
-        client.now.options.now task.now request commands.now events.now (carried_seen carried.now) }
+    ensures received { IsReceiptOrSmaller L.gives L.fails request.method.now (view request.params)
+        (CompletesWith L.gives L.fails client.now.options.now task.now commands.now events.now no_members
+        (carried_seen carried.now)) result }
 {
     match client.send(request) {
         Err(fault) if fault.is_too_large() => {
@@ -77,8 +80,8 @@ pub(crate) fn complete_answered<L: Connection, Q: QueryHandler>(
 ) -> Receipt
     requires { Q.ready query_handler.now }
     ensures sent { result ≢ Withheld }
-    ensures acknowledged { result ≡ Acknowledged → CompletesAnswered (Q.gives_results query_handler.now)
-        L.gives L.fails client.now.options.now task.now commands.now events.now (carried_seen carried.now) }
+    ensures received { CompletesAnswered (Q.gives_results query_handler.now) L.gives L.fails
+        client.now.options.now task.now commands.now events.now (carried_seen carried.now) result }
 {
     let Ok(results) = results_of(client.allocator(), query_handler, task, events) else {
         return Receipt::NoMemory;

@@ -1,10 +1,12 @@
 -- Tasks that were opened, and are to be answered.
-use Rattle.std.specs.Prelude.{◌≡◌, ◌⊎◌, ⊤, ℕ, Bool, List, [], Option, Some, None, option_map, Result, Ok, Err, IfOk, IsSomeAnd, if◌then◌else◌}
+use Rattle.std.specs.Prelude.{◌≡◌, ◌⊎◌, ⊤, codes, ℕ, Bool, List, [], Option, Some, None, option_map, Result, Ok, Err, IfOk, IsSomeAnd, if◌then◌else◌}
 use Rattle.serde_json.specs.Data.{Data}
 use Rattle.serde_json.specs.View.{members_view}
-use Rattle.wh_client.specs.Calls.{Gives}
+use Rattle.wh_client.specs.Calls.{Fails, Gives}
 use Rattle.wh_client.specs.Histories.{CanNotBeRead, HasAllMembers}
+use Rattle.wh_client.specs.Pages.{ReadsNotOn}
 use Rattle.wh_client.specs.Polls.{IsActivityPoll, IsWorkflowPoll}
+use Rattle.wh_client.specs.Refusals.{IsFaultBy}
 use Rattle.wh_client.specs.declared.asking.AskFault.{AskFault}
 use Rattle.wh_client.specs.declared.asking.AskFault.TheVariants as asked
 use Rattle.wh_events.specs.declared.event.Event.{Event}
@@ -17,7 +19,7 @@ use Rattle.wh_live.specs.declared.tasks.OpenTask.{OpenTask}
 use Rattle.wh_responses.specs.declared.response.PolledActivity.{PolledActivity}
 use Rattle.wh_commands.specs.declared.names.WorkerNames.{WorkerNames}
 use Rattle.wh_responses.specs.declared.response.ActivityPoll.{ActivityPoll}
-use Rattle.wh_responses.specs.declared.response.ActivityPoll.TheVariants as ActivityPoll
+use Rattle.wh_requests.specs.Requests.{poll_activity, poll_workflow}
 use Rattle.wh_responses.specs.Responses.{Task}
 use Rattle.wh_responses.specs.Responses as read
 use Rattle.wh_replay.specs.Runs.{follows}
@@ -193,3 +195,24 @@ HasLater gives names queue open_task = HasKept gives names queue (option_map lat
 -- the open task is as before, or none is
 abbrev pub KeepsLater : Option OpenTask → Option OpenTask → Type 0
 KeepsLater old new = (new ≡ None) ⊎ (option_map later_kept new ≡ option_map later_kept old)
+
+-- ---- Polls that bring nothing
+
+-- the bridge closed before all pages of the history of a task were fetched
+abbrev pub IsCutShort : Gives → Fails → WorkerNames → Task → Type 0
+IsCutShort gives fails names polled = ReadsNotOn gives fails names polled.run polled.next_page asked.Closed
+
+-- why a poll of a queue brings nothing: the call came to this, its result can't be read, or the bridge closed before all
+-- pages of its task were fetched
+abbrev pub IsWorkflowFault : Gives → Fails → WorkerNames → Bool → AskFault → Type 0
+IsWorkflowFault gives fails names sticky fault =
+    IsFaultBy (fails (codes "PollWorkflowTaskQueue") (poll_workflow names sticky)) fault
+    ⊎ (((fault ≡ asked.Unreadable) × IsWorkflowPoll gives names sticky read.unreadable)
+    ⊎ ((fault ≡ asked.Closed)
+    × ((polled : Task) × IsWorkflowPoll gives names sticky (read.task polled) × IsCutShort gives fails names polled)))
+
+-- why a poll for activity tasks brings nothing: the call came to this, or its result can't be read
+abbrev pub IsActivityFault : Gives → Fails → WorkerNames → AskFault → Type 0
+IsActivityFault gives fails names fault =
+    IsFaultBy (fails (codes "PollActivityTaskQueue") (poll_activity names)) fault
+    ⊎ ((fault ≡ asked.Unreadable) × IsActivityPoll gives names ActivityPoll.Unreadable)
