@@ -67,7 +67,7 @@ STARTED, CONTINUED = "workflowExecutionStartedEventAttributes", "workflowExecuti
 SIGNALED, UNKNOWN_TYPE, UNKNOWN_QUERY = 26, 999, "unknown query type weather; known: none"
 # The trouble that a proxy makes, in this order; and what is left out, and why.
 TROUBLES = ("refused_polls", "late_polls", "lost_responses", "refused_pages", "unknown_events", "busy_runs")
-LEFT_OUT = {"busy_runs": "the host does not answer the queries of a task with the task yet"}
+LEFT_OUT = {}
 # Each channel has a connection of its own, and takes messages of any size.
 CHANNEL_OPTIONS = (("grpc.use_local_subchannel_pool", 1), ("grpc.max_receive_message_length", -1))
 # For how many seconds the proxy lets a poll wait; after how many milliseconds it ends a connection, and its calls.

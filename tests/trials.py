@@ -802,6 +802,7 @@ TRIES = [
     run_cached_late,
     queries_of_runs,
     query_beside_a_task,
+    query_of_a_busy_run,
     shutdowns_with_polls,
     shutdown_with_answers,
     shutdown_at_work,
@@ -820,7 +821,7 @@ LONG = [
     shutdown_with_pages_that_hang,
     shutdown_with_a_farewell_that_hangs,
 ]
-LEFT_OUT = {query_of_a_busy_run: "the host does not answer the queries of a task with the task yet"}
+LEFT_OUT = {}
 
 
 def main():

@@ -7,6 +7,7 @@ mod heartbeats;
 mod hosting;
 pub mod laws;
 mod serving;
+mod task_queries;
 mod timer;
 
 pub use heartbeats::LiveHeartbeat;

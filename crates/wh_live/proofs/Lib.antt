@@ -5,3 +5,4 @@ pub mod Later
 pub mod Receipts
 pub mod Silent
 pub mod Waiting
+pub mod Queried

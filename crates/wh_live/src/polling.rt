@@ -158,11 +158,12 @@ fn open_task<L: Connection>(
         attempt,
         members,
         next_page,
-        ..
+        queries,
     } = polled;
     let key = run.try_copy()?;
     let mut opened = OpenTask::new(client.allocator(), id, token, key);
     opened.attempt = attempt;
+    opened.queries = queries;
     match client.with_pages(&run, next_page, members) {
         Ok(members) => read_task(client, opened, run, members.as_slice()),
         Err(fault) => give_up(client, &opened, fault),

@@ -1,8 +1,9 @@
 -- What is sent for a task, and what becomes of it.
-use Rattle.std.specs.Prelude.{◌≡◌, ◌≢◌, ◌↔◌, ◌⊎◌, ◌<◌, IsOk, IsTrue, ℕ, List, [], codes, not, Bool, true, false, Option, Some, None, Result, Ok, Err, string_bytes, if◌then◌else◌}
+use Rattle.std.specs.Prelude.{◌≡◌, ◌≢◌, ◌↔◌, ◌⊎◌, ◌<◌, IsOk, IsTrue, ℕ, List, codes, not, Bool, true, false, Option, Some, None, Result, Ok, Err, string_bytes, if◌then◌else◌}
 use Rattle.std.specs.List.{list_any}
 use Rattle.std.specs.Str.{bytes_eq}
-use Rattle.serde_json.specs.Data.{Data}
+use Rattle.serde_json.specs.Data.{Data, Members, no_members, member}
+use Rattle.serde_json.specs.View.{members_view}
 use Rattle.wh_client.specs.Calls.{Fails, Gives}
 use Rattle.wh_client.specs.Codes.{accepted_answer, is_taken, keeps_run}
 use Rattle.wh_live.specs.Answers.{cause_of, receipt_of}
@@ -31,7 +32,7 @@ use Rattle.wh_workflow.specs.declared.command.Command.{Command}
 use Rattle.wh_live.specs.declared.tallies.Tally.{Tally}
 use Rattle.wh_live.specs.declared.tasks.OpenTask.{OpenTask}
 use Rattle.wh_live.specs.Private.Counting.{settled}
-use Rattle.wh_live.specs.Private.Receipts.{IsReceiptOf}
+use Rattle.wh_live.specs.Private.Receipts.{IsReceiptOf, IsRefusedAsLarge}
 use Rattle.wh_tasks.specs.declared.source.SourceFault.{SourceFault}
 
 -- ---- What is sent
@@ -46,10 +47,49 @@ IsCompletion gives fails (Ok params) receipt =
     IsReceiptOf gives fails (codes "RespondWorkflowTaskCompleted") params receipt
 IsCompletion gives fails (Err fault) receipt = IsReplaced receipt
 
--- what became of the completion of the task with these commands, and with what its run carries over
-abbrev pub CompletesWith : Gives → Fails → LiveOptions → OpenTask → List Command → List Event → Carried → Receipt → Type 0
-CompletesWith gives fails options task commands events carried receipt = IsCompletion gives fails
-    (workflow_completed options.names task.token commands events [] options.sticky options.policies carried) receipt
+-- what became of the completion of the task with these commands and results of queries, and with what its run carries
+-- over
+abbrev pub CompletesWith : Gives → Fails → LiveOptions → OpenTask → List Command → List Event → Members → Carried → Receipt → Type 0
+CompletesWith gives fails options task commands events results carried receipt = IsCompletion gives fails
+    (workflow_completed options.names task.token commands events results options.sticky options.policies carried) receipt
+
+-- which results the queries of a task may get, by the events of its run
+abbrev pub GivesResults : Type 1
+GivesResults = List Event → Members → Members → Type 0
+
+-- these are results of the queries of a task; without queries there are none
+abbrev pub HasResults : GivesResults → List Event → Members → Members → Type 0
+HasResults gives_results events no_members results = results ≡ no_members
+HasResults gives_results events (member id query queries) results =
+    gives_results events (member id query queries) results
+
+-- what became of a call with results of queries; or it was too large, and this became of the one without them
+abbrev pub IsReceiptOrSmaller : Gives → Fails → List ℕ → Data → (Receipt → Type 0) → Receipt → Type 0
+IsReceiptOrSmaller gives fails method params smaller receipt = IsReceiptOf gives fails method params receipt
+    ⊎ (IsRefusedAsLarge (fails method params) × smaller receipt)
+
+-- what became of a completion with results of queries, by what is written for it: a request; or a fault, and the task is
+-- failed instead
+abbrev pub IsCompletionOrSmaller : Gives → Fails → Result Data RequestFault → (Receipt → Type 0) → Receipt → Type 0
+IsCompletionOrSmaller gives fails (Ok params) smaller receipt =
+    IsReceiptOrSmaller gives fails (codes "RespondWorkflowTaskCompleted") params smaller receipt
+IsCompletionOrSmaller gives fails (Err fault) smaller receipt = IsReplaced receipt
+
+-- what became of the completion of the task with these commands and the results of its queries, or of the one without
+-- these results, if that with them was too large
+pub record HasAnsweredQueries (gives_results : GivesResults) (gives : Gives) (fails : Fails) (options : LiveOptions)
+    (task : OpenTask) (commands : List Command) (events : List Event) (carried : Carried) (receipt : Receipt) : Type 0 where
+  pub results : Members
+  pub has : HasResults gives_results events (members_view task.queries.entries) results
+  pub became : IsCompletionOrSmaller gives fails
+      (workflow_completed options.names task.token commands events results options.sticky options.policies carried)
+      (CompletesWith gives fails options task commands events no_members carried) receipt
+
+-- the same, unless there was no memory for the results
+abbrev pub CompletesAnswered : GivesResults → Gives → Fails → LiveOptions → OpenTask → List Command → List Event
+    → Carried → Receipt → Type 0
+CompletesAnswered gives_results gives fails options task commands events carried receipt =
+    HasAnsweredQueries gives_results gives fails options task commands events carried receipt ⊎ (receipt ≡ NoMemory)
 
 -- what a run carries over if it is continued as a new one: what its first event says
 abbrev pub IsCarried : Gives → WorkerNames → RunKey → Bool → Carried → Type 0
@@ -65,10 +105,10 @@ pub record IsUnsent (gives : Gives) (fails : Fails) (names : WorkerNames) (run :
   pub is : receipt ≡ receipt_of fault
 
 -- what became of the completion of the task with these commands
-abbrev pub CompletesTask : Gives → Fails → LiveOptions → OpenTask → List Command → List Event → Receipt → Type 0
-CompletesTask gives fails options task commands events receipt =
+abbrev pub CompletesTask : GivesResults → Gives → Fails → LiveOptions → OpenTask → List Command → List Event → Receipt → Type 0
+CompletesTask gives_results gives fails options task commands events receipt =
     ((carried : Carried) × IsCarried gives options.names task.run (list_any continues commands) carried
-    × CompletesWith gives fails options task commands events carried receipt)
+    × CompletesAnswered gives_results gives fails options task commands events carried receipt)
     ⊎ ((list_any continues commands ≡ true) × IsUnsent gives fails options.names task.run receipt)
 
 -- what became of the failure of the task of a token with a cause
@@ -78,10 +118,10 @@ pub record FailsTask (gives : Gives) (fails : Fails) (names : WorkerNames) (toke
   pub became : IsReceiptOf gives fails (codes "RespondWorkflowTaskFailed") (workflow_failed names token cause message) receipt
 
 -- what became of this answer to the task
-abbrev pub HasAnswer : Gives → Fails → LiveOptions → OpenTask → Answer → List Event → Receipt → Type 0
-HasAnswer gives fails options task (Complete commands) events receipt =
-    CompletesTask gives fails options task commands events receipt
-HasAnswer gives fails options task (Fail fault) events receipt =
+abbrev pub HasAnswer : GivesResults → Gives → Fails → LiveOptions → OpenTask → Answer → List Event → Receipt → Type 0
+HasAnswer gives_results gives fails options task (Complete commands) events receipt =
+    CompletesTask gives_results gives fails options task commands events receipt
+HasAnswer gives_results gives fails options task (Fail fault) events receipt =
     FailsTask gives fails options.names task.token (cause_of fault) receipt
 
 -- only a failure is withheld, and not that of the first attempt
@@ -90,10 +130,10 @@ IsKeptBack task (Complete commands) = ⊥
 IsKeptBack task (Fail fault) = 1 < task.attempt
 
 -- this answer to the task is kept back, or else this became of it
-pub record IsAnswerReceipt (gives : Gives) (fails : Fails) (options : LiveOptions) (answer : Answer) (events : List Event)
-    (task : OpenTask) (receipt : Receipt) : Type 0 where
+pub record IsAnswerReceipt (gives_results : GivesResults) (gives : Gives) (fails : Fails) (options : LiveOptions)
+    (answer : Answer) (events : List Event) (task : OpenTask) (receipt : Receipt) : Type 0 where
   pub kept_back : receipt ≡ Withheld → IsKeptBack task answer
-  pub sent : receipt ≢ Withheld → HasAnswer gives fails options task answer events receipt
+  pub sent : receipt ≢ Withheld → HasAnswer gives_results gives fails options task answer events receipt
 
 -- the open task has this name, and this became of the answer to it
 pub record AnswersOpen (answers : OpenTask → Receipt → Type 0) (open_task : Option OpenTask) (name : TaskName)

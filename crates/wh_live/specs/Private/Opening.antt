@@ -1,6 +1,7 @@
 -- Tasks that were opened, and are to be answered.
 use Rattle.std.specs.Prelude.{◌≡◌, ◌⊎◌, ⊤, codes, ℕ, Bool, List, [], Option, Some, None, option_map, Result, Ok, Err, IfOk, IsSomeAnd, if◌then◌else◌}
 use Rattle.serde_json.specs.Data.{Data}
+use Rattle.serde_json.specs.View.{members_view}
 use Rattle.wh_client.specs.Calls.{Fails, Gives}
 use Rattle.wh_client.specs.Histories.{CanNotBeRead, HasAllMembers}
 use Rattle.wh_client.specs.Pages.{ReadsNotOn}
@@ -111,14 +112,15 @@ IsSilent asked.TooManyPages = ⊥
 IsSilent (asked.History fault) = ⊥
 IsSilent asked.OutOfMemory = ⊤
 
--- a task is answered with its token, in its attempt, and under the name under which it is delivered, which is the id of
--- the poll
+-- a task is answered with its token, in its attempt, with the results of its queries, and under the name under which it
+-- is delivered, which is the id of the poll
 pub record Opens (id : ℕ) (polled : Task) (opened : OpenTask) (given : TaskName) : Type 0 where
   pub numbered : given.0 ≡ id
   pub name : opened.name ≡ given
   pub token : opened.token ≡ polled.token
   pub run : opened.run ≡ polled.run
   pub attempt : opened.attempt ≡ polled.attempt
+  pub queries : members_view opened.queries.entries ≡ polled.queries
 
 -- the same for an activity task
 pub record OpensActivity (id : ℕ) (polled : PolledActivity) (opened : OpenTask) (given : TaskName) : Type 0 where
@@ -159,13 +161,14 @@ GivesOpened p result open_task = IfOk result (IfTask (λ task. IsSomeAnd open_ta
 abbrev pub later_events : List Event → List Event
 later_events events = if follows 0 events then [] else events
 
--- the open task keeps its token, run, attempt and name, under which it is delivered
+-- the open task keeps its token, run, attempt, queries and name, under which it is delivered
 pub record StaysOpen (old new : OpenTask) (given : TaskName) : Type 0 where
   pub kept : old.name ≡ given
   pub name : new.name ≡ given
   pub token : new.token ≡ old.token
   pub run : new.run ≡ old.run
   pub attempt : new.attempt ≡ old.attempt
+  pub queries : new.queries ≡ old.queries
 
 -- if the poll returned a task it is delivered and opened; otherwise the open task stays
 abbrev pub IsOpened : {A : Type 0} → Result (Polled (OpenTask × A)) SourceFault → Option OpenTask

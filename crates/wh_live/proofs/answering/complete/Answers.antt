@@ -8,9 +8,9 @@ use Rattle.wh_live.proofs.answering.complete.Goals as goal
 pub returns-then-not-continues_as_new-clause-received : goal.returns-then-not-continues_as_new-clause-received
 returns-then-not-continues_as_new-clause-received g c =
     let ends : list_any continues c.args.commands.now ≡ false = cc in
-    inl (carried_seen c.nothing.result, carries_nothing g.L.Connection.gives c.args.client.now.options.now.names c.args.task.now.run _ _ ends c.nothing.ensures, c.complete_with.ensures.received)
+    inl (carried_seen c.nothing-carried.result, carries_nothing g.L.Connection.gives c.args.client.now.options.now.names c.args.task.now.run _ _ ends c.nothing-carried.ensures, c.complete_answered.ensures.received)
 
 pub returns-in-Ok-clause-received : goal.returns-in-Ok-clause-received
 returns-in-Ok-clause-received g c =
     let goes_on : list_any continues c.args.commands.now ≡ true = cc in
-    inl (carried_seen c.in-Ok.carried, carried_on g.L.Connection.gives c.args.client.now.options.now.names c.args.task.now.run _ _ goes_on c.in-Ok.ensures.carried, c.complete_with-in-Ok.ensures.received)
+    inl (carried_seen c.in-Ok.carried, carried_on g.L.Connection.gives c.args.client.now.options.now.names c.args.task.now.run _ _ goes_on c.in-Ok.ensures.carried, c.complete_answered-in-Ok.ensures.received)

@@ -1,7 +1,7 @@
 use Rattle.std.proofs.Common.{◌∙◌, ap, is_some, map, refl, replicate}
 use Rattle.wh_crew.specs.Counts.{tallies_of}
 use Rattle.wh_crew.specs.Crews.{normal_workers, sources_of}
-use Rattle.wh_crew.proofs.serving.serve_live.Goals as goal
+use Rattle.wh_crew.proofs.serving.serve_with.Goals as goal
 
 -- the setups are those of the crew, and the end is what the host left of them
 pub returns-clause-served : goal.returns-clause-served
