@@ -24,17 +24,17 @@ POLL_SECONDS = 70
 CALL_SECONDS = 10
 # How long a heartbeat waits for its response. It is made once, since a handler waits meanwhile, and its next one tells more.
 HEARTBEAT, HEARTBEAT_SECONDS = "RecordActivityTaskHeartbeat", 5
-# How long the answer of an activity is tried: until its timeout, and a minute at least; after a stop no longer than that.
+# How long the answer of an activity is tried: until its timeout, and for a minute at least; after a stop, for a minute at most.
 ACTIVITY_SECONDS = 60
 # The waits before a call is made again: the first one, and the longest of a poll, of an activity's answer, of others.
 FIRST_WAIT, POLL_WAIT, ACTIVITY_WAIT, LONGEST_WAIT = 0.1, 5.0, 5.0, 2.0
-# A poll without a task that lasts less than the first is followed by a pause, of which the second is the longest.
+# After a poll that ends without a task in less than QUICK_SECONDS comes a pause, of LONGEST_PAUSE at most.
 QUICK_SECONDS, LONGEST_PAUSE = 1.0, 1.0
 # A poll that is refused, or hangs, is reported once in so many seconds.
 REPORT_SECONDS = 60
-# How many tasks of activities are known at most without a look for those that are over.
+# Above so many activity tasks, those whose time is over are forgotten.
 MANY_TASKS = 1_000
-# How many messages of polls are kept.
+# How many poll requests are kept parsed.
 MOST_POLLS = 80
 CANCELLED, INVALID, DEADLINE, NOT_FOUND, DENIED, EXHAUSTED = 1, 3, 4, 5, 7, 8
 UNIMPLEMENTED, INTERNAL, UNAVAILABLE, UNAUTHENTICATED = 12, 13, 14, 16
@@ -45,8 +45,8 @@ PASSING = (CANCELLED, 2, EXHAUSTED, 10, 11, INTERNAL, UNAVAILABLE, 15)
 PASSING_OF_ACTIVITIES = (*PASSING, DEADLINE, DENIED, UNAUTHENTICATED)
 # How gRPC says, in C and Go or in Java, that a message is too large: a retry would not help.
 TOO_LARGE = ("larger than max", "exceeds maximum size")
-# The codes of a poll that end the worker once they last, and what to do about each. In passing a proxy gives them, or a server
-# that starts.
+# The codes that end the worker if polls keep getting them, and what to do about each. A proxy, or a server that starts, gives
+# them in passing.
 REFUSALS = {
     INVALID: "check the names of the Task Queue and of the namespace {namespace}",
     NOT_FOUND: "check that {address} has the namespace {namespace}",
@@ -87,11 +87,14 @@ def seconds_of(duration: str) -> float:
 class Pauses:
     """The pauses after polls that end at once without a task. Those of a Task Queue grow, until it has a task."""
 
-    def __init__(self):
-        self.lock, self.held = threading.Lock(), {}
+    def __init__(self) -> None:
+        self.lock = threading.Lock()
+        # The pause after the last poll of a Task Queue, and since when.
+        self.held: Dict[str, Tuple[float, float]] = {}
 
     def next(self, queue: str) -> float:
-        """Returns the next pause: the one before, or twice that if it is over, so that many polls at once are one."""
+        """Returns the next pause: twice the last one, or the last one again while it is not over, so that many polls at once
+        count as one."""
         now = time.monotonic()
         with self.lock:
             pause, since = self.held.get(queue, (FIRST_WAIT / 2, 0))
@@ -101,6 +104,7 @@ class Pauses:
             return pause
 
     def reset(self, queue: str) -> None:
+        """Lets the pauses of a Task Queue begin anew."""
         with self.lock:
             self.held.pop(queue, None)
 
@@ -108,8 +112,9 @@ class Pauses:
 class Reports:
     """What was reported, and when."""
 
-    def __init__(self):
-        self.lock, self.last = threading.Lock(), {}
+    def __init__(self) -> None:
+        self.lock = threading.Lock()
+        self.last: Dict[Tuple[str, Any], float] = {}
 
     def add(self, what: Tuple[str, Any], text: str, longest: float = REPORT_SECONDS) -> None:
         """Reports something, unless the same was reported in so many seconds."""
@@ -126,13 +131,15 @@ class Tokens:
     """The tasks of activities that are in hand, by their tokens: what each is called, and until when its answer may be
     tried."""
 
-    def __init__(self):
-        self.lock, self.tasks = threading.Lock(), {}
+    def __init__(self) -> None:
+        self.lock = threading.Lock()
+        self.tasks: Dict[str, Tuple[str, float]] = {}
 
     def add(self, task: Dict[str, Any]) -> None:
-        timeouts = [task[name] for name in ("startToCloseTimeout", "scheduleToCloseTimeout") if name in task]
+        """Notes a task that a poll gave. A server writes a timeout that is not set as 0."""
+        timeouts = [seconds_of(task.get(name, "0s")) for name in ("startToCloseTimeout", "scheduleToCloseTimeout")]
         now = time.monotonic()
-        until = now + max(ACTIVITY_SECONDS, min(map(seconds_of, timeouts), default=0))
+        until = now + max(ACTIVITY_SECONDS, min(filter(None, timeouts), default=0))
         name = f"{task.get('activityType', {}).get('name')} of {run_of(task.get('workflowExecution', {}))}"
         with self.lock:
             if len(self.tasks) >= MANY_TASKS:
@@ -147,6 +154,7 @@ class Tokens:
         return name, max(until, now + ACTIVITY_SECONDS)
 
     def remove(self, token: Any) -> None:
+        """Forgets a task that was answered."""
         with self.lock:
             self.tasks.pop(token, None)
 
@@ -171,6 +179,7 @@ class Calls:
         self.connections.watch(self.is_stopped)
 
     def is_ready(self) -> bool:
+        """Returns whether the bridge goes on, and its polls succeed."""
         return not self.is_stopped.is_set() and self.readiness.is_ready()
 
     def greet(self, longest: float) -> bool:
@@ -215,12 +224,12 @@ class Calls:
 
     def count(self, method: str, namespace: str, took: float, code: Optional[grpc.StatusCode]) -> None:
         """Counts a call. A poll that is empty, or ends at a shutdown, has not failed."""
-        is_failure = code and not (method.startswith("Poll") and code.value[0] in (CANCELLED, DEADLINE))
-        self.counts.add(namespace, method, took, code.name if is_failure else None)
+        is_normal = code and method.startswith("Poll") and code.value[0] in (CANCELLED, DEADLINE)
+        self.counts.add(namespace, method, took, code.name if code and not is_normal else None)
 
     def name_events(self, result: Dict[str, Any], request: Any) -> None:
-        """Gives a name to each type of event that the package does not know, and that is only a number therefore. Reports
-        the first event of a type that a worker may not ignore."""
+        """Gives a name to each type of event that the package does not know and gives as a number. Reports the first event of
+        each such type that a worker may not ignore."""
         for event in result.get("history", {}).get("events", ()):
             kind = event.get("eventType")
             if isinstance(kind, int):
@@ -236,7 +245,8 @@ class Calls:
     def poll(self, method: str, request: Any) -> Outcome:
         """Makes a poll, again and again while it is refused in passing."""
         queue = getattr(request, "task_queue", None)
-        name, begun, wait = f"{method} of {queue.name}" if queue else method, None, FIRST_WAIT
+        name, wait = f"{method} of {queue.name}" if queue else method, FIRST_WAIT
+        begun: Optional[float] = None
         while True:
             result, error = self.poll_once(name, method, request)
             if error is None or error == SHUTDOWN[1]:
@@ -276,10 +286,9 @@ class Calls:
             return SHUTDOWN  # The channel was closed.
         finally:
             self.readiness.end(number, name, is_good)
-        code = None if error is None else error[0]
-        if code == CANCELLED:
+        if error is not None and error[0] == CANCELLED:
             return SHUTDOWN if self.is_stopped.is_set() else (None, (UNAVAILABLE, error[1]))
-        if code not in (None, DEADLINE):
+        if error is not None and error[0] != DEADLINE:
             return None, error
         self.take(name, method, result, time.monotonic() - begun)
         return result or {}, None
@@ -326,8 +335,8 @@ class Calls:
 
     def told(self, method: str, name: str, error: Error, tried: Optional[float]) -> Error:
         """Returns an error whose text says which call failed, of which activity, for how many seconds it was tried, and what
-        is lost. The host names the run of a workflow task, and takes meaning from texts of the codes 3, 5 and 8; these stay as
-        they are."""
+        is lost. The host names the run of a workflow task, and reads the texts of answers with code 3 or 5, and of messages
+        that are too large; these stay as they are."""
         code, text = error
         if code in (INVALID, NOT_FOUND) and method.startswith("Respond") or any(words in text for words in TOO_LARGE):
             return error

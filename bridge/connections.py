@@ -8,7 +8,7 @@ import ssl
 import threading
 import time
 from argparse import Namespace
-from typing import Callable, List, Optional, Sequence, Tuple
+from typing import Any, Callable, Dict, List, Optional, Sequence, Tuple
 
 import grpc
 
@@ -27,7 +27,7 @@ CHANNEL = {
     "grpc.http2.max_pings_without_data": 0,
     "grpc.max_reconnect_backoff_ms": 5_000,
 }
-# How often the files are looked at, and after how long no call is open that began on earlier channels.
+# How often the files are looked at, and after how long every call on an earlier channel has ended.
 LOOK_SECONDS, OLD_SECONDS = 2, 80
 
 
@@ -98,9 +98,10 @@ class Channels:
     """Two channels to the server: one for polls, whose end cancels them, and one for all other calls."""
 
     def __init__(self, found: Namespace):
-        self.for_polls, self.for_others, self.stubs = connect(found), connect(found), {}
+        self.for_polls, self.for_others = connect(found), connect(found)
+        self.stubs: Dict[str, Callable[..., Any]] = {}
 
-    def stub(self, method: str, made: type, response: type) -> Callable:
+    def stub(self, method: str, made: Any, response: Any) -> Callable[..., Any]:
         """Returns the callable that makes the calls of a method."""
         if method not in self.stubs:
             channel = self.for_polls if method.startswith("Poll") else self.for_others
@@ -109,7 +110,7 @@ class Channels:
 
 
 class Watched:
-    """Some files, and what takes them again."""
+    """Files, and the function that reads them again when they change."""
 
     def __init__(self, paths: Sequence[Optional[str]], take: Callable[[], None]):
         self.paths, self.take = [path for path in paths if path], take
@@ -127,7 +128,7 @@ class Watched:
         return found.st_mtime_ns, found.st_size, found.st_ino
 
     def look(self) -> None:
-        """Takes files that have changed, once two looks see the same: so the half of a change is not taken. Bad files are
+        """Takes files that have changed, once two looks see the same, so that half a change is not taken. Bad files are
         reported, and not taken."""
         before, self.seen = self.seen, self.marks()
         if self.seen != before or self.seen == self.taken:
@@ -143,8 +144,9 @@ class Connections:
     """The channels that are used now, those that were used before, and the key."""
 
     def __init__(self, found: Namespace):
-        self.found, self.lock, self.earlier = found, threading.Lock(), []
-        # They look at the files before these are read, and so see each later change.
+        self.found, self.lock = found, threading.Lock()
+        self.earlier: List[Tuple[float, Channels]] = []
+        # Made before the files are read, so that no change after that is missed.
         self.watched = [Watched(tls_files(found), self.reconnect), Watched([found.api_key_file], self.read_key)]
         self.read_key()
         self.now, self.is_closed = Channels(found), False

@@ -8,13 +8,13 @@ from bisect import bisect_left
 from collections import Counter, defaultdict
 from http.server import BaseHTTPRequestHandler, ThreadingHTTPServer
 from socket import AF_INET, AF_INET6
-from typing import Callable, Dict, List, Optional, Tuple
+from typing import Any, Callable, Dict, List, Optional, Tuple
 
 from report import Unusable
 
-# The bounds of the latencies that are told apart, in seconds.
+# The upper bounds of the histograms' buckets, in seconds.
 BOUNDS = (0.01, 0.05, 0.1, 0.5, 1, 2.5, 10, 60)
-# A poll that is open for so many seconds was not refused.
+# A poll that is open for so many seconds counts as accepted.
 OPEN_SECONDS = 5
 # The families of metrics, each with what it counts: of calls, and of polls.
 FAMILIES = {"temporal_request": "Calls that are no polls", "temporal_long_request": "Polls"}
@@ -29,8 +29,9 @@ def label(text: str) -> str:
 class Tally:
     """The calls of a method in a namespace: how many took how long, and how many failed with which code."""
 
-    def __init__(self):
-        self.within, self.seconds, self.failures = [0] * (len(BOUNDS) + 1), 0.0, Counter()
+    def __init__(self) -> None:
+        self.within, self.seconds = [0] * (len(BOUNDS) + 1), 0.0
+        self.failures: Counter[str] = Counter()
 
     def add(self, seconds: float, failure: Optional[str]) -> None:
         self.within[bisect_left(BOUNDS, seconds)] += 1
@@ -42,8 +43,9 @@ class Tally:
 class Counts:
     """The counts of all calls."""
 
-    def __init__(self):
-        self.lock, self.calls = threading.Lock(), defaultdict(Tally)
+    def __init__(self) -> None:
+        self.lock = threading.Lock()
+        self.calls: Dict[Tuple[str, str], Tally] = defaultdict(Tally)
 
     def add(self, namespace: str, method: str, seconds: float, failure: Optional[str]) -> None:
         """Counts a call, with the name of the code with which it failed."""
@@ -58,7 +60,9 @@ class Counts:
     def family(self, name: str) -> List[str]:
         """Returns the lines of the calls that are polls, or of those that are not."""
         what, are_polls = FAMILIES[name], name == "temporal_long_request"
-        total, failed, latency = [], [], []
+        total: List[str] = []
+        failed: List[str] = []
+        latency: List[str] = []
         for (namespace, method), calls in sorted(self.calls.items()):
             if method.startswith("Poll") == are_polls:
                 labels = f'namespace="{label(namespace)}",operation="{method}"'
@@ -91,8 +95,10 @@ def latencies(name: str, labels: str, calls: Tally) -> List[str]:
 class Readiness:
     """Whether polls succeed, by their Task Queues."""
 
-    def __init__(self):
-        self.lock, self.succeeded, self.open, self.last = threading.Lock(), {}, {}, 0
+    def __init__(self) -> None:
+        self.lock, self.last = threading.Lock(), 0
+        self.succeeded: Dict[str, bool] = {}
+        self.open: Dict[int, float] = {}
 
     def begin(self) -> int:
         """Notes that a poll begins. Returns its number."""
@@ -115,10 +121,12 @@ class Readiness:
 
 def content_of(path: Optional[str]) -> str:
     """Returns the worker's own metrics, or nothing while they are not there."""
+    if path is None:
+        return ""
     try:
         with open(path, encoding="utf-8") as file:
             return file.read()
-    except (OSError, TypeError, UnicodeDecodeError):
+    except (OSError, UnicodeDecodeError):
         return ""
 
 
@@ -139,8 +147,8 @@ def listen(address: str, pages: Dict[str, Page]) -> int:
             self.end_headers()
             self.wfile.write(text.encode())
 
-        def log_message(self, *_) -> None:
-            """Each request is no line of standard error."""
+        def log_message(self, *_: Any) -> None:
+            """Writes no line for a request."""
 
     host, _, port = address.rpartition(":")
     host = host.strip("[]")
@@ -148,7 +156,7 @@ def listen(address: str, pages: Dict[str, Page]) -> int:
     class Listener(ThreadingHTTPServer):
         address_family = AF_INET6 if ":" in host else AF_INET
 
-        def handle_error(self, *_) -> None:
+        def handle_error(self, *_: Any) -> None:
             """A caller that goes away is no fault."""
 
     try:

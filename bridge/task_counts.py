@@ -31,7 +31,7 @@ CLOSES = {
 }
 # A sticky Task Queue (temporal.api.enums.v1.TaskQueueKind).
 STICKY = 2
-# How many workflow tasks are known at most. Those that are never answered stay, until they are the oldest.
+# How many workflow tasks are known at most. Beyond that the oldest, which was perhaps never answered, is forgotten.
 MOST_OPEN = 1_000
 
 Labels = Tuple[Tuple[str, str], ...]
@@ -40,12 +40,14 @@ Labels = Tuple[Tuple[str, str], ...]
 def label_of_queue(queue: Any) -> str:
     """Returns a Task Queue as a label: a sticky one by the queue that it stands beside, as the SDK names it, since each process
     has its own."""
-    return f"{queue.normal_name}:sticky" if queue.kind == STICKY else queue.name
+    name: str = queue.name
+    return f"{queue.normal_name}:sticky" if queue.kind == STICKY else name
 
 
 def seconds_between(begin: Any, end: Any) -> float:
     """Returns the seconds from one timestamp to another, 0 if the clocks of two servers say that it was before."""
-    return max(0.0, end.seconds - begin.seconds + (end.nanos - begin.nanos) / 1e9)
+    seconds: float = end.seconds - begin.seconds + (end.nanos - begin.nanos) / 1e9
+    return max(0.0, seconds)
 
 
 def text_of(labels: Labels) -> str:
@@ -55,10 +57,10 @@ def text_of(labels: Labels) -> str:
 class TaskCounts:
     """The counts of tasks."""
 
-    def __init__(self):
+    def __init__(self) -> None:
         self.lock = threading.Lock()
         self.waits: Dict[str, Dict[Labels, Tally]] = {name: defaultdict(Tally) for name in HISTOGRAMS}
-        self.counters: Dict[str, Counter] = {name: Counter() for name in COUNTERS}
+        self.counters: Dict[str, Counter[Labels]] = {name: Counter() for name in COUNTERS}
         # The labels of the runs of workflow tasks that are in hand, by the tokens of the tasks.
         self.open: Dict[bytes, Labels] = {}
 
@@ -105,7 +107,7 @@ class TaskCounts:
         with self.lock:
             of_run: Optional[Labels] = self.open.pop(request.task_token, None)
             name = CLOSES.get(request.commands[-1].command_type) if request.commands else None
-            # An old package does not know what a discarded task is.
+            # An old package has no such field.
             if of_run and name and not getattr(response, "reset_history_event_id", 0):
                 self.counters[name][of_run] += 1
 

@@ -31,10 +31,13 @@ import threading
 import uuid
 from argparse import Namespace
 from collections import deque
-from typing import Any, Dict, List, Optional
+from typing import IO, TYPE_CHECKING, Any, Deque, Dict, List, Optional, Type, cast
 
-from counts import content_of, listen
+from counts import Page, content_of, listen
 from report import Unusable, say
+
+if TYPE_CHECKING:
+    from calls import Calls, Error
 
 signal.signal(signal.SIGINT, signal.SIG_DFL)  # Until the command runs there is nothing to shut down.
 if os.getpid() == 1:  # In a container, where these signals do nothing by default.
@@ -44,7 +47,7 @@ os.environ.setdefault("GRPC_VERBOSITY", "NONE")  # This program reports each err
 # How often gRPC looks, while no call is open, whether a connection is there again: every five seconds by default.
 os.environ.setdefault("GRPC_CLIENT_CHANNEL_BACKUP_POLL_INTERVAL_MS", "250")
 
-# A worker has at most 64 requests open, each in a thread.
+# A process has at most 64 workers and a thread that answers queries, each with one request open.
 MOST_CALLS = 80
 # The longest line that the host reads, in bytes, and how deep its values may nest.
 MOST_BYTES, MOST_LEVELS = 128 << 20, 127
@@ -52,7 +55,7 @@ EXHAUSTED, INTERNAL = 8, 13
 SHUTDOWN = b'{"jsonrpc":"2.0","method":"shutdown"}\n'
 
 
-def import_calls() -> type:
+def import_calls() -> Type[Calls]:
     """Imports what needs the two packages; without them --help works too."""
     try:
         from calls import Calls
@@ -109,7 +112,7 @@ def request_in(line: bytes) -> Optional[Dict[str, Any]]:
     return request if is_request else None
 
 
-def line_of(number: Any, result: Any, error: Any) -> bytes:
+def line_of(number: Any, result: Any, error: Optional[Error]) -> bytes:
     """Returns the line of the response to a request: with the result, unless there is an error, a code and a
     message."""
     outcome = {"result": result} if error is None else {"error": {"code": error[0], "message": error[1]}}
@@ -132,10 +135,16 @@ def is_too_deep(line: bytes, result: Any) -> bool:
 class Bridge:
     """The command, and the lines between it and the calls of the server."""
 
-    def __init__(self, calls: Any):
+    # The command, its output and its input, once it is started.
+    child: subprocess.Popen[bytes]
+    requests: IO[bytes]
+    responses: IO[bytes]
+
+    def __init__(self, calls: Calls):
         self.calls = calls
-        self.reading, self.writing, self.lines = threading.Lock(), threading.Lock(), deque()
-        self.is_stopped, self.stops, self.child = threading.Event(), 0, None
+        self.reading, self.writing = threading.Lock(), threading.Lock()
+        self.lines: Deque[bytes] = deque()
+        self.is_stopped, self.stops = threading.Event(), 0
 
     def answer(self, request: Dict[str, Any]) -> None:
         """Makes the call of a request and writes its response. Whatever goes wrong, there is a response that the host
@@ -159,8 +168,8 @@ class Bridge:
         while self.lines and self.writing.acquire(blocking=False):
             try:
                 while self.lines:
-                    self.child.stdin.write(self.lines.popleft())
-                    self.child.stdin.flush()
+                    self.responses.write(self.lines.popleft())
+                    self.responses.flush()
             except OSError:
                 pass  # The command has closed its input.
             finally:
@@ -170,7 +179,7 @@ class Bridge:
         """Reads requests and answers them, one after another; many threads do so at once."""
         while True:
             with self.reading:
-                line = self.child.stdout.readline()
+                line = self.requests.readline()
             if not line:
                 return
             request = request_in(line)
@@ -202,6 +211,7 @@ class Bridge:
         except OSError as why:
             say(f"cannot start {command[0]}: {why.strerror}")
             return 2
+        self.requests, self.responses = cast(IO[bytes], self.child.stdout), cast(IO[bytes], self.child.stdin)
         signal.signal(signal.SIGTERM, self.stop)
         signal.signal(signal.SIGINT, self.stop)
         for work in [self.shut_down, self.calls.watch] + [self.serve] * MOST_CALLS:
@@ -216,12 +226,12 @@ class Bridge:
         return 128 - status if status < 0 else status
 
 
-def pages_of(calls: Any, worker_metrics: Optional[str]) -> Dict[str, Any]:
+def pages_of(calls: Calls, worker_metrics: Optional[str]) -> Dict[str, Page]:
     """Returns the pages of --listen."""
     return {
         "/metrics": lambda: (200, calls.counts.text() + calls.tasks.text() + content_of(worker_metrics)),
         "/live": lambda: (200, "the bridge lives\n"),
-        "/ready": lambda: (200, "polls succeed\n") if calls.is_ready() else (503, "no poll succeeds\n"),
+        "/ready": lambda: (200, "a poll succeeded, or is open for a while\n") if calls.is_ready() else (503, "no poll succeeds\n"),
     }
 
 
@@ -233,7 +243,7 @@ def main() -> int:
         if found.listen:
             listen(found.listen, pages_of(calls, found.worker_metrics))
     except Unusable as why:
-        say(why)
+        say(str(why))
         return 2
     if not calls.greet(found.wait):
         return 2

@@ -182,7 +182,8 @@ class Activities:
 
     def wait_for_beat(self, run, activity, token):
         """Lets an activity time out if no heartbeat comes in time, if it has a heartbeat timeout."""
-        if activity.heartbeat is None:
+        limit = milliseconds_of(activity.heartbeat)
+        if not limit:
             return
         beaten_at = activity.beaten_at
 
@@ -190,7 +191,7 @@ class Activities:
             if activity.beaten_at == beaten_at:
                 self.time_out(run, activity, token, "TIMEOUT_TYPE_HEARTBEAT")
 
-        self.server.clock.at(milliseconds_of(activity.heartbeat), look)
+        self.server.clock.at(limit, look)
 
     def taken(self):
         """Returns the response to an accepted answer, unless it is lost."""

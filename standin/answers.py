@@ -78,7 +78,7 @@ class Answers:
         """Refuses commands that have a fault, or that close a run to which something has come."""
         fault = commands.fault_of(run, made, self.server.settings) or self.server.world.completed(run, made)
         if fault:
-            self.findings.blame(peer, f"{run.kind} {run.workflow_id}: {fault}")
+            self.findings.blame(peer, f"{run.kind} {run.workflow_id}: {fault}{run.account}")
             self.refuse(run, BAD_COMMAND, fault)
         if commands.closes(made) and commands.left_held(run, made):
             self.counts["unhandled"] += 1
@@ -96,9 +96,9 @@ class Answers:
             self.counts["lost answers"] += 1
             raise Refused(NOT_FOUND, "workflow task not found")
         if "resetHistoryEventId" in result:
-            given.peer.cached.pop(given.run, None)
+            given.peer.discard(given)
         else:
-            given.peer.cached[given.run] = given.task.started
+            given.peer.acknowledge(given)
         return result
 
     # What is wrong with an answer apart from its commands.
@@ -122,15 +122,15 @@ class Answers:
         peer, workflow_id = given.peer, given.run.workflow_id
         if given.is_partial and given.has_fetched:
             peer.counts["misses"] += 1
-        elif given.is_partial:
+        elif given.is_from_cache:
             peer.counts["hits"] += 1
             given.hits += 1
             if given.last_cached != given.before:
                 kind = f"at attempt {given.task.attempt}, given {given.times} times" + (", speculative" if given.is_speculative else "")
                 where = f"a cached run that ends in {given.last_cached}, not {given.before}, {kind}"
-                self.findings.blame(peer, f"{workflow_id} was answered from {where}")
+                self.findings.blame(peer, f"{workflow_id} was answered from {where}{given.run.account}")
             elif given.hits > 1:
-                self.findings.blame(peer, f"{workflow_id} was answered twice from one cached run")
+                self.findings.blame(peer, f"{workflow_id} was answered twice from one cached run{given.run.account}")
 
 
 def sticky_of(attributes):

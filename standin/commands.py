@@ -12,10 +12,12 @@ CLOSINGS = {
     "CANCEL_WORKFLOW_EXECUTION": "WorkflowExecutionCanceled",
     "CONTINUE_AS_NEW_WORKFLOW_EXECUTION": "WorkflowExecutionContinuedAsNew",
 }
+# The timeouts of an activity that need not be set, as a server writes those that are not.
+NO_TIMEOUTS = {name: "0s" for name in ("scheduleToCloseTimeout", "scheduleToStartTimeout", "heartbeatTimeout")}
 
 
 def policy_fault(policy):
-    """Returns why a server refuses a retry policy, or an empty text. One of a single attempt is not looked at."""
+    """Returns why a server refuses a retry policy, or an empty text. A server does not look at one of a single attempt."""
     first, most = (milliseconds_of(policy.get(name, "0s")) for name in ("initialInterval", "maximumInterval"))
     if policy.get("maximumAttempts") == 1:
         return ""
@@ -173,8 +175,9 @@ class Effects:
         getattr(self, kind.lower())({**attributes, "workflowTaskCompletedEventId": self.completed})
 
     def schedule_activity_task(self, attributes):
-        number = self.run.append("ActivityTaskScheduled", attributes)
-        activity = self.run.activities[number] = Activity(number, attributes)
+        filled = {**NO_TIMEOUTS, **attributes}
+        number = self.run.append("ActivityTaskScheduled", filled)
+        activity = self.run.activities[number] = Activity(number, filled)
         self.server.activities.schedule(self.run, activity)
 
     def request_cancel_activity_task(self, attributes):

@@ -2,7 +2,11 @@
 
 import base64
 import itertools
-from collections import Counter
+import time
+from collections import Counter, deque
+
+# How many of the last lines of an account are kept.
+KEPT = 12
 
 
 class Findings:
@@ -14,6 +18,20 @@ class Findings:
     def blame(self, peer, what):
         """Notes a fault of a worker, or of the stand-in if there is no worker."""
         self.wrong.append(f"{peer.name if peer else 'server'}: {what}")
+
+
+class Account:
+    """What came of one run's tasks lately: who was given them, who fetched the history, and how each answer ended. It stands
+    below what is wrong with an answer."""
+
+    def __init__(self, clock):
+        self.clock, self.lines = clock, deque(maxlen=KEPT)
+
+    def note(self, peer, what):
+        self.lines.append(f"\n    {time.monotonic():.3f} s, {self.clock.now} ms: {peer.name} {what}")
+
+    def __str__(self):
+        return "".join(self.lines)
 
 
 class Tokens:

@@ -11,17 +11,18 @@ CALLED_OFF = "called off"
 
 
 class Heard:
-    """The heartbeats of one task: how many labels are printed by the last one, at first those of an earlier attempt, and
-    whether a response said that the handler should give up, as `cancel` or `gone`."""
+    """The heartbeats of one task: how many labels are printed by the last one, at first those of an earlier attempt, whether
+    it got no response, and whether a response said that the handler should give up, as `cancel` or `gone`."""
 
     def __init__(self, printed):
-        self.printed, self.end = printed, None
+        self.printed, self.is_unheard, self.end = printed, False, None
 
 
 class Till:
     """The activities of `order_worker`: `ChargeCard` returns its input; `PrintLabels` prints a label for each payload
     of its input, but for those that an earlier attempt has printed, sends a heartbeat after each, with the number of
-    printed labels, and returns their number; one of another type fails. If a heartbeat's response says that the
+    printed labels, and returns their number; one of another type fails. Heartbeats may be held, so that some numbers are
+    left out, but not the first one, and one without a response may be sent again. If a heartbeat's response says that the
     cancellation of the activity is requested, or that its answer is no longer expected, it gives up."""
 
     kinds = ("ChargeCard", "PrintLabels", "PrintLabels", "Mail")
@@ -37,7 +38,7 @@ class Till:
         activity = self.server.activities.by_token[token][1]
         heard = self.tasks.setdefault(token, Heard(self.printed_before(activity)))
         if method == BEAT:
-            fault = self.beaten(heard, params, result, error)
+            fault = self.beaten(activity, heard, params, result, error)
         elif method.startswith(ANSWER):
             fault = self.answered(activity, heard, method.removeprefix(ANSWER), params)
         else:
@@ -45,11 +46,14 @@ class Till:
         if fault:
             self.server.findings.blame(peer, f"{activity.kind} {readable(token)}: {fault}")
 
-    def beaten(self, heard, params, result, error):
+    def beaten(self, activity, heard, params, result, error):
         """Returns what is wrong with a heartbeat, or an empty text."""
-        wanted, given = [f"{heard.printed + 1}".encode()], payloads_in(params, "details")
-        fault = f"it beats after {heard.end}" if heard.end else "" if [bytes(one) for one in given] == wanted else f"it beats with {given}"
-        heard.printed += 1
+        given = self.values(params, "details")
+        told = int(given[0]) if len(given) == 1 and given[0].isdigit() else 0
+        labels = len(self.values({"input": activity.input}, "input"))
+        is_next = heard.printed < told <= labels or heard.is_unheard and told == heard.printed
+        fault = f"it beats after {heard.end}" if heard.end else "" if is_next else f"it beats with {given}"
+        heard.printed, heard.is_unheard = told, error is not None
         if result and result.get("cancelRequested"):
             heard.end = "cancel"
         elif error is not None and error[0] == NOT_FOUND:
@@ -70,7 +74,7 @@ class Till:
             wanted = ("Failed", CALLED_OFF)
         else:
             wanted = ("Completed", [f"{len(input)}".encode()])
-        if given == wanted and (heard.end or activity.kind != "PrintLabels" or heard.printed == len(input)):
+        if given == wanted and (heard.end or activity.kind != "PrintLabels" or heard.printed or not input):
             return ""
         return f"after {heard.printed} labels it answers {given}, and not {wanted}"
 

@@ -9,6 +9,8 @@ something else is written; completed without commands, it leaves no event.
 
 from datetime import datetime, timedelta, timezone
 
+from findings import Account
+
 FIRST = datetime(2024, 5, 1, 10, 0, 0, tzinfo=timezone.utc)
 # Ends of activities and children are written after all else that was held back.
 LAST_OF_ALL = ("ActivityTaskCompleted", "ActivityTaskFailed", "ActivityTaskTimedOut", "ActivityTaskCanceled")
@@ -55,8 +57,8 @@ class Activity:
         self.input = attributes.get("input")
         # What a worker sets, over what a server takes otherwise.
         self.policy = {"initialInterval": "1s", "backoffCoefficient": 2, "maximumInterval": "100s", **attributes.get("retryPolicy", {})}
-        self.whole_timeout = attributes.get("scheduleToCloseTimeout")
-        self.timeout, self.heartbeat = attributes.get("startToCloseTimeout", "60s"), attributes.get("heartbeatTimeout")
+        self.whole_timeout, self.heartbeat = attributes["scheduleToCloseTimeout"], attributes["heartbeatTimeout"]
+        self.timeout = attributes.get("startToCloseTimeout", "60s")
         self.attempt = 1
         self.token = None
         self.first_scheduled_at = self.scheduled_at = self.started_at = None
@@ -68,7 +70,7 @@ class Activity:
         self.details = self.given_details = self.beaten_at = None
 
     def may_be_tried_again(self, failure):
-        """Returns whether there are attempts left, and this failure is not one after which there are none."""
+        """Returns whether there are attempts left, and the failure allows one."""
         info, most = failure.get("applicationFailureInfo", {}), self.policy.get("maximumAttempts", 0)
         is_last = info.get("nonRetryable") or info.get("type") in self.policy.get("nonRetryableErrorTypes", [])
         return not (is_last or self.canceled or (most and self.attempt >= most))
@@ -117,6 +119,7 @@ class Run:
         self.before = 0
         self.activities, self.timers, self.due, self.children = {}, {}, {}, {}
         self.is_canceled = False
+        self.account = Account(server.clock)
         started = {
             "workflowType": {"name": kind},
             "taskQueue": {"name": queue, "kind": "TASK_QUEUE_KIND_NORMAL"},

@@ -35,12 +35,32 @@ class Peer:
         self.identity = self.sticky = None
         self.polls = 0
         # By run: the number of the last event that the run had when the server last acknowledged one of this worker's
-        # answers for it, but none if it discarded the task. The worker may only have cached such a run, and only if no
-        # other answer was accepted since.
+        # answers for it, but none once it discarded a later task (`discard`). The worker may only have cached such a run,
+        # and only if no other answer was accepted since.
         self.cached = {}
+        # The runs of the answers that were acknowledged since all its pollers polled: perhaps it has not read the response
+        # yet, and caches the run later.
+        self.unread = set()
         # By run: the tasks of it that were given.
         self.has = {}
         self.counts = Counter()
+
+    def begin_poll(self):
+        """Counts a poll that waits. Whoever polls has read the response to each answer before."""
+        self.polls += 1
+        if 0 < self.pollers <= self.polls:
+            self.unread.clear()
+
+    def acknowledge(self, given):
+        """Notes that it may cache the run of a task, once it has read the response to its answer."""
+        self.cached[given.run] = given.task.started
+        self.unread.add(given.run)
+
+    def discard(self, given):
+        """Notes that the task of an answer was discarded, and with it the run that was cached before. But if the task came
+        ahead of the response to the answer before, and was answered from its history, that answer's run is cached later."""
+        if given.is_from_cache or not given.is_ahead:
+            self.cached.pop(given.run, None)
 
     def lose_connection(self):
         """Notes that its connection is lost: it may have missed the response to each answer that it sent, and send it
@@ -57,10 +77,22 @@ class Given:
         self.peer, self.run, self.task, self.is_partial = peer, run, task, is_partial
         self.times, self.answers, self.hits, self.repeats = 1, 0, 0, 0
         self.before, self.last_cached = run.before, peer.cached.get(run)
+        # Whether the worker may read the response to the answer before after this task.
+        self.is_ahead = peer.is_disturbed or run in peer.unread
         self.is_speculative, self.has_fetched, self.is_stale = task.is_speculative, False, False
         # The histories that the worker has fetched since.
         self.fetched = []
         peer.has.setdefault(run, []).append(self)
+
+    @property
+    def is_from_cache(self):
+        """Whether it is answered from a cached run, if it is answered now."""
+        return self.is_partial and not self.has_fetched
+
+    def __str__(self):
+        words = [f"at attempt {self.task.attempt} after event {self.before if self.is_partial else 0}", f"has cached {self.last_cached}"]
+        words += ["has perhaps not read the last response"] * self.is_ahead + ["speculative"] * self.is_speculative
+        return ", ".join(words)
 
 
 class InHand:

@@ -29,7 +29,7 @@ HOSTILE = [
     b'[{"jsonrpc":"2.0","id":%d,"result":{"taskToken":"\xff\xfe"}}]',
     b"[" * 1000,
 ]
-# For how many seconds requests are waited for at once, while a task is being processed, and if only a poll is missing.
+# How many seconds one wait for requests lasts: while a task is in hand, and while only polls are awaited.
 LONG_WAIT, SHORT_WAIT = 0.01, 0.001
 # Within how many seconds a worker has read a shutdown notice.
 KNOWS_SECONDS = 3

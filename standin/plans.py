@@ -18,14 +18,14 @@ MOST_SECONDS = 120
 
 class Call:
     """A call: its method, its context in gRPC, and its request, in whichever form the server takes it. `handle()` lets the
-    server handle it, and returns the result and the error; `lose()` tells the server that the response may not come through."""
+    server handle it, and returns the result and the error; `lose()` tells the server that its response may be lost."""
 
     def __init__(self, method, request, context, handle, lose=lambda: None):
         self.method, self.request, self.context, self.handle, self.lose = method, request, context, handle, lose
 
 
 class Row:
-    """A fault of the calls of some methods: of those that a function picks, and of the first so many with a key."""
+    """A fault of the calls of some methods: of those that `picks` accepts, the first `times` of each key."""
 
     def __init__(self, methods, fault, times, key, picks):
         self.methods, self.fault, self.times, self.key, self.picks = methods.split(), fault, times, key, picks
@@ -78,7 +78,7 @@ def in_turn(*faults):
 
 
 def by_key(key, *faults):
-    """A fault for each key: that of the first key is the first one, and so on in turn."""
+    """A fault for each key: the first key that is seen has the first fault, and so on, round and round."""
     found, lock = {}, threading.Lock()
 
     def fault(call):
@@ -102,6 +102,17 @@ def slow(seconds):
     def fault(call):
         time.sleep(seconds)
         return call.handle()
+
+    return fault
+
+
+def late(event):
+    """The server handles the call, and the response waits for an event."""
+
+    def fault(call):
+        answered = call.handle()
+        event.wait(MOST_SECONDS)
+        return answered
 
     return fault
 

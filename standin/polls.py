@@ -14,7 +14,7 @@ class Poll:
 
     def __init__(self, peer, reply):
         self.peer, self.reply = peer, reply
-        peer.polls += 1
+        peer.begin_poll()
 
     def answer(self, result, error=None):
         self.peer.polls -= 1

@@ -1,4 +1,4 @@
-"""Processes that were started by processes of one's own."""
+"""The children of a process."""
 
 import os
 import signal

@@ -45,7 +45,7 @@ class Proxy(grpc.GenericRpcHandler):
         return result or b""
 
     def hand_on(self, path, request, context):
-        """Makes the call at the server, and gives it up with its caller."""
+        """Makes the call at the server, and cancels it when its caller gives up."""
         most = self.poll_seconds if "/Poll" in path else CALL_SECONDS
         seconds = min(context.time_remaining() or most, most)
         made = self.channel.unary_unary(path).future(request, timeout=seconds, metadata=self.metadata(context))

@@ -4,8 +4,8 @@ A query on its own waits in the sticky queue of its run, and after a while in th
 is when a poll takes it. Its answer is from the state after the last completed task: of the history that was given, of
 one that the run has had since, or of one that the worker fetched meanwhile. A query with a task is answered with that
 task, from the state after the task. One that the answer omits, or whose task nobody completes, is sent again on its
-own. Where queries follow tasks, as in a server, one of a run that has a task waits: it comes with the next task that is given,
-and on its own once there is none.
+own. With `follow_tasks`, as in a server, a query of a run that has a task waits: it comes with the task when that is given, or
+on its own when the run has none.
 """
 
 import base64

@@ -7,7 +7,7 @@ passed with it. Each part has one duty, and finds the others here.
 from activities import Activities
 from answers import Answers
 from clock import Clock
-from findings import Findings, Tokens
+from findings import Findings, Tokens, text_of
 from histories import Histories
 from messages import REQUESTS, fault_in
 from peers import INVALID, InHand, Refused
@@ -93,6 +93,7 @@ class Server:
                 if method not in UNCOUNTED:
                     peer.counts[why.code] += 1
                 result, error = None, (why.code, why.message)
+            self.note(peer, method, params, result, error)
             if self.world.handlers:
                 self.world.handlers.replied(peer, method, params, result, error)
             reply(result, error)
@@ -112,6 +113,15 @@ class Server:
         peer.counts["answers failed"] += method.startswith("Respond") and method not in UNCOUNTED
         self.tasks.give_up(peer, params)
         return None, (self.troubles.dice.choice(self.final_codes), "the server can't answer now")
+
+    def note(self, peer, method, params, result, error):
+        """Notes how an answer or a call for a history ended, in the account of its run."""
+        given = self.tasks.given.get((params.get("taskToken"), peer))
+        run = given.run if given else self.runs.find(params["execution"]) if "execution" in params else None
+        if run is not None:
+            what = f"{method} of {text_of(given.task.token)}" if given else method
+            how = f"code {error[0]}" if error else "discarded" if "resetHistoryEventId" in result else "taken"
+            run.account.note(peer, f"{what}: {how}, the last task started in event {run.before}")
 
     def strange(self, peer, method, params):
         """Returns what is wrong with the namespace or the identity of a request, or an empty text."""

@@ -1,5 +1,6 @@
 """Workflow tasks: how they wait in queues, and what a poll gets."""
 
+from findings import text_of
 from histories import page_of
 from history import left_out, time_text
 from peers import UNAVAILABLE, Given
@@ -111,6 +112,7 @@ class WorkflowTasks:
             self.given[key].times += 1
         else:
             self.given[key] = Given(peer, run, task, is_partial)
+        run.account.note(peer, f"is given {text_of(task.token)} {self.given[key]}")
         if self.server.world.is_answered(run, task.attempt):
             self.server.in_hand.add(*key)
         poll.answer(self.task_of(run, events, is_partial))

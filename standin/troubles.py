@@ -32,7 +32,7 @@ KINDS = {
     "dead": (0.01, "a second in which a connection goes dead: nothing goes through, and nobody closes it (gRPC alone)"),
     "away": (0.05, "a second after which the server is away for some (gRPC alone)"),
 }
-# What a bridge never does, and what this host does not keep yet.
+# Not in `all`: what a bridge never does (`open`), and what the host drops (`metadata`, docs/LIVE.md).
 NOT_IN_ALL = ("open", "metadata")
 
 

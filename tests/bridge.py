@@ -21,8 +21,8 @@ from concurrent.futures import ThreadPoolExecutor
 from pathlib import Path
 
 import support
-from support import ACTIVITY, ANSWER, LIMIT_SECONDS, PAGE, TASK, TOP, Bridge, Tries
-from support import base64_of, free_port, has, outcome, page_of, same, soon
+from rows import TOP, Tries, has, same, soon
+from support import ACTIVITY, ANSWER, LIMIT_SECONDS, PAGE, TASK, Bridge, base64_of, free_port, outcome, page_of
 
 os.environ.setdefault("GRPC_VERBOSITY", "NONE")
 support.take_packages("the bridge needs")
@@ -452,9 +452,9 @@ def heartbeat_without_a_response():
 
 def long_answer_of_an_activity():
     """The result of an activity is tried until its timeout, and no longer than a minute where that is shorter. It is told of
-    which activity."""
+    which activity. A timeout that is not set is one of 0, as a server writes it."""
     members = {"activity_type": {"name": "Charge"}, "workflow_execution": {"workflow_id": "nap-1", "run_id": "first"}}
-    tasks = iter([{"start_to_close_timeout": {"seconds": 200}}, {"start_to_close_timeout": {"seconds": 5}}])
+    tasks = iter([{"start_to_close_timeout": {"seconds": seconds}, "schedule_to_close_timeout": {}} for seconds in (200, 5)])
     begun = time.monotonic()
 
     def give(*_):
@@ -995,7 +995,7 @@ def page_of_readiness():
             same("all are refused", page_of(port, "/ready")[0], 503)
             modes[0] = "empty"
             bridge.answered(TASK, POLL)
-            same("one has succeeded", page_of(port, "/ready"), (200, "polls succeed\n"))
+            same("one has succeeded", page_of(port, "/ready"), (200, "a poll succeeded, or is open for a while\n"))
             modes[0] = "refuse"
             bridge.answered(TASK, POLL)
             same("all are refused again", page_of(port, "/ready")[0], 503)

@@ -1,7 +1,10 @@
 #!/usr/bin/env python3
 """Tries what docs/PROVED.md cites: each name in backticks is a function, a type, a trait, a definition, a crate or a file of the
 repository, and each clause in parentheses after it is one of its clauses, fields or ghost items. In the table of crates the word
-before a name is its crate. README and the other pages are searched for links alone: each file is there, and each heading.
+before a name is its crate. All pages are searched for links: each file is there, and each heading.
+
+The map of docs/ARCHITECTURE.md has each crate of crates.txt once, in the same groups and the same order, and its arrows say what
+the groups stand on; in crates.txt each crate comes after those that it stands on.
 
     tests/claims.py
 
@@ -10,20 +13,35 @@ The last line is `N tried, M wrong`, and the status is 1 where one is wrong."""
 import functools
 import re
 import sys
-from pathlib import Path
 
 import rust_items
+from rows import TOP, try_rows, words_of
 from rust_items import body_of, past_braces
 
 code_of = functools.cache(rust_items.code_of)
-TOP = Path(__file__).resolve().parent.parent
-PAGES = [TOP / "README.md", *sorted((TOP / "docs").glob("*.md"))]
+PAGES = [*sorted(TOP.glob("*.md")), *sorted((TOP / "docs").glob("*.md"))]
 # A name, and the clauses that are cited of it.
 CITED = re.compile(r"`([^`]+)`(?: \(((?:\w+, )*\w+)\))?")
 LINK = re.compile(r"\]\(([^)#:]*)(?:#([\w-]+))?\)")
 # What a type parameter or a ghost item may be called in backticks, without being an item of its own.
 WORDS = {"F", "gives", "Wait", "wh_"}
 ITEM = r"\b(?:fn|struct|enum|trait|type|static|const)\s+{}\b"
+
+
+@functools.cache
+def groups_listed():
+    """Returns the groups of crates.txt by their headings, each with its crates and what they stand on."""
+    _, *parts = (TOP / "crates.txt").read_text(encoding="utf-8").split("\n\n")
+    groups = {}
+    for heading, *lines in (part.strip().split("\n") for part in parts):
+        rows = (line.partition(":") for line in lines if not line.startswith("#"))
+        groups[heading.removeprefix("# ")] = {name: uses.split() for name, _, uses in rows}
+    return groups
+
+
+def crates_listed():
+    """Returns what each crate stands on, in the order of crates.txt."""
+    return {name: uses for crates in groups_listed().values() for name, uses in crates.items()}
 
 
 @functools.cache
@@ -89,7 +107,7 @@ def wrong_name(name, clauses, crate):
         return None if list(TOP.glob(name)) else f"{name} is no file"
     if name.endswith("*") or (TOP / "crates" / name).is_dir():
         return None if list(TOP.glob(f"crates/{name}")) else f"{name} is no crate"
-    if name in (TOP / "crates.txt").read_text(encoding="utf-8").replace(":", " ").split():
+    if any(name in uses for uses in crates_listed().values()):
         return None
     texts = texts_of(name, crate)
     if not texts:
@@ -134,22 +152,64 @@ def wrong_link(file, target, anchor):
     return None
 
 
-def main():
-    wrong, tried = [], 0
+def map_drawn(page):
+    """Returns the map: the groups by their names, each with its crates, and the arrows from group to group."""
+    section = re.search(r"^## The crates$.*?(?=^## )", page, re.DOTALL | re.MULTILINE)[0]
+    groups, arrows = {}, set()
+    names = dict(re.findall(r"^    (\w+)\[(.*)\]$", section, re.MULTILINE))
+    for line in section.split("\n"):
+        if found := re.match(r"    (\w[\w ]*): ", line):
+            crates = groups.setdefault(found[1], [])
+        elif found := re.match(r"      (\w+) ", line):
+            crates.append(found[1])
+        elif " --> " in line:
+            tails, heads = (part.split(" & ") for part in line.strip().split(" --> "))
+            arrows |= {(names.get(tail, tail), names.get(head, head)) for tail in tails for head in heads}
+    return groups, arrows
+
+
+def arrows_wanted(groups):
+    """Returns the arrows from each group to those that it stands on, but not by way of another."""
+    home = {name: group for group, crates in groups.items() for name in crates}
+    below, arrows = {}, set()
+    for group, crates in groups.items():
+        # If it stands on a later group, the order of the crates is wrong.
+        on = {home[use] for uses in crates.values() for use in uses if home.get(use) in below}
+        below[group] = on.union(*(below[one] for one in on))
+        arrows |= {(group, one) for one in on if not any(one in below[other] for other in on)}
+    return arrows
+
+
+def claims_of_map(page):
+    """Yields each group, crate and arrow of crates.txt and of the map, with what is wrong with it."""
+    listed, (drawn, arrows), crates = groups_listed(), map_drawn(page), crates_listed()
+    yield "the groups", None if [*listed] == [*drawn] else f"the map has the groups {', '.join(drawn)}"
+    for group, names in listed.items():
+        why = "its crates are not those of crates.txt, in their order"
+        yield group, None if drawn.get(group) == [*names] else why
+    places = [name for names in drawn.values() for name in names]
+    for name in dict.fromkeys([*crates, *places]):
+        why = f"the map has it {places.count(name)} times" if name in crates else "it is no crate"
+        yield name, None if name in crates and places.count(name) == 1 else why
+    for place, name in enumerate(crates):
+        later = [use for use in crates[name] if use in [*crates][place:]]
+        yield f"the place of {name}", f"it comes before {', '.join(later)} in crates.txt" if later else None
+    wanted = arrows_wanted(listed) if [*listed] == [*drawn] else set()
+    for one in sorted(wanted | arrows):
+        why = "it is not in the map" if one in wanted else "it is in the map, and should not be"
+        yield f"the arrow {' --> '.join(one)}", None if one in wanted & arrows else why
+
+
+def claims():
+    """Yields each citation and each link, with what is wrong with it."""
     for name, clauses, crate in citations((TOP / "docs/PROVED.md").read_text(encoding="utf-8")):
-        tried += 1
-        wrong.append(wrong_name(name, clauses, crate))
+        yield f"PROVED.md: {name}", wrong_name(name, clauses, crate)
+    for what, why in claims_of_map((TOP / "docs/ARCHITECTURE.md").read_text(encoding="utf-8")):
+        yield f"ARCHITECTURE.md: {what}", why
     for file in PAGES:
         for target, anchor in LINK.findall(file.read_text(encoding="utf-8")):
-            tried += 1
-            why = wrong_link(file, target, anchor)
-            wrong.append(f"{file.name}: {why}" if why else None)
-    wrong = [one for one in wrong if one]
-    for one in wrong:
-        print(f"claims: {one}", file=sys.stderr)
-    print(f"{tried} tried, {len(wrong)} wrong")
-    return 1 if wrong or not tried else 0
+            yield f"{file.name}: {target}{'#' * bool(anchor)}{anchor}", wrong_link(file, target, anchor)
 
 
 if __name__ == "__main__":
-    sys.exit(main())
+    sys.exit(try_rows(claims(), words_of(__doc__).parse_args()))

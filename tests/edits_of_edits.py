@@ -12,6 +12,7 @@ import subprocess
 import sys
 import tempfile
 import time
+from itertools import chain
 from pathlib import Path
 from types import SimpleNamespace
 
@@ -20,6 +21,7 @@ from edit_crates import COMMANDS, Crate, Kit
 from edit_store import Store
 from edit_trial import Check, Edit, Trial
 from edits import Lanes, tell, try_all
+from rows import difference, try_rows, words_of
 
 NAME = "edited"
 CODE = """//! Choices.
@@ -121,7 +123,7 @@ def crate_in(folder):
 
 
 def by_the_prover(room):
-    """Yields what is wrong with what comes of the edits and of what is kept of them, or nothing."""
+    """Yields what is wrong with what comes of each edit and with what is kept of it."""
     folder, kept, kit = room / NAME, room / "refused", Kit()
     kept.mkdir()
     crate = crate_in(folder)
@@ -132,20 +134,19 @@ def by_the_prover(room):
     trial.try_all()
     for name, (wanted, *_) in EDITS.items():
         said = trial.said.get(name, "nothing")
-        yield "" if said.startswith(wanted) else f"{name}: it was to be {wanted}, and is {said}"
-        is_refused = wanted.startswith("refused")
+        yield name, "" if said.startswith(wanted) else f"{said!r}, not {wanted!r}"
         is_kept = Store(kit, kept).holds(crate, Edit(folder / f"edits/{name}.edit"))
-        yield "" if is_kept == is_refused else f"{name}: that it was refused is {'not ' * is_refused}kept"
+        yield f"{name}, whether that it was refused is kept", difference(is_kept, wanted.startswith("refused"))
     time.sleep(0.1)
     later = Store(kit, kept)
     (folder / "src/lib.rt").write_text(CODE.replace("Choices", "Some choices"), encoding="utf-8")
     for gate in (later, Store(kit, kept)):
         is_kept = any(gate.holds(crate, Edit(file)) for file in crate.edits())
-        yield "a refusal counts that is of another text" if is_kept else ""
+        yield "whether a refusal counts that is of another text", difference(is_kept, False)
 
 
 def by_lanes(room):
-    """Yields what is wrong with what lanes say in which something fails, or nothing."""
+    """Yields what is wrong with what lanes say in which something fails."""
     write(room / "unreadable", b"\xff")
     for names, store, failure, line in LANES:
         crates, said = [crate_in(room / name) for name in names], io.StringIO()
@@ -155,40 +156,35 @@ def by_lanes(room):
             tell(lanes, None)
         lines = said.getvalue().splitlines()
         is_right = lines[-1] == line and any(one.startswith(failure) for one in lines)
-        yield "" if is_right else f"{failure}: the last line was to be {line}, and all is\n{said.getvalue()}"
+        yield failure, "" if is_right else f"the last line was to be {line}, and all is\n{said.getvalue()}"
 
 
 def by_impls(room):
-    """Yields what is wrong with what is told of a check's words on impls, or nothing."""
+    """Yields what is wrong with what is told of a check's words on impls."""
     for words, module, wanted in IMPLS:
         check = Check(crate_in(room / NAME), subprocess.CompletedProcess([], 1, UNTRUE.format(*words)))
         refusal = check.refusal(SimpleNamespace(changes={(module, ("KindSort", "ghost"))}))
-        yield "" if refusal == wanted else f"{words}: it was to be {wanted}, and is {refusal}"
+        yield f"an impl, {words}", difference(refusal, wanted)
 
 
 def by_ends(room):
-    """Yields what is wrong with how often a check is tried that ends for memory, or nothing."""
+    """Yields what is wrong with how often a check is tried that ends for memory."""
     for ends, *wanted in ENDS:
         ran = (subprocess.CompletedProcess([], *end) for end in ends)
         edit_trial.COMMANDS = SimpleNamespace(run=lambda *_: (next(ran), 1), are_over=True)
         trial = Trial(crate_in(room / NAME), SimpleNamespace(check=[], folder=room), room, float("inf"))
         states = trial.run({}).states
-        came = [trial.seconds, bool(states)]
-        yield "" if came == wanted else f"{ends}: it was to be {wanted}, and is {came}"
+        yield f"checks that end so: {ends}", difference([trial.seconds, bool(states)], wanted)
     edit_trial.COMMANDS = COMMANDS
 
 
 def main():
+    asked = words_of(__doc__).parse_args()
     COMMANDS.be_guarded()
     with tempfile.TemporaryDirectory(prefix="edits-of-edits.") as made:
         room = Path(made)
         write(room / NAME, CODE.encode())
-        found = [*by_lanes(room), *by_impls(room), *by_ends(room), *by_the_prover(room)]
-    wrong = [line for line in found if line]
-    for line in wrong:
-        print(line)
-    print(f"{len(found)} tried, {len(wrong)} wrong")
-    return 1 if wrong else 0
+        return try_rows(chain(by_lanes(room), by_impls(room), by_ends(room), by_the_prover(room)), asked)
 
 
 if __name__ == "__main__":

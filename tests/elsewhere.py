@@ -3,20 +3,21 @@
 Task Queue for each type of activity, and two workers in Python (tests/python_worker.py) that take them there. Runs bring the
 table examples/tables/trip.json; one of them books all, the other one has to undo what it booked.
 
-    tests/elsewhere.py [--program PATH]
+    tests/elsewhere.py [NAME..] [--program PATH]
 
 Each step of each run is compared: which activity, on which queue, how it ended, and how the run closed. The last line is
 `N tried, M wrong`, and the status is 1 where one is wrong. Where grpcio or protobuf is missing it is `skipped: WHY`."""
 
-import argparse
 import base64
 import subprocess
 import sys
 import tempfile
 import time
+from functools import partial
 from pathlib import Path
 
-from support import PROGRAM, TOP, Client, environment_of, payloads, take_packages, use_trimmed
+from rows import PROGRAM, TOP, WAITING, difference, need, pick, try_rows, words_of
+from support import Client, environment_of, payloads, take_packages, use_trimmed
 
 SECONDS = 60
 TABLE = TOP / "examples/tables/trip.json"
@@ -92,7 +93,7 @@ class Room:
         return [] if status == 0 else [self.said.read().decode(errors="replace")[-2000:]]
 
 
-def tried(program, name, trial):
+def faults_of(program, trial):
     """What is wrong with a trial."""
     cars, steps, end, what = trial
     with tempfile.TemporaryDirectory() as folder:
@@ -105,26 +106,19 @@ def tried(program, name, trial):
                 events = client.history(execution)
         finally:
             faults = room.end()
-    found = told(events)
-    if found != (steps, end, what):
-        faults.append(f"{name}: {found}, and not {(steps, end, what)}")
-    return faults
+    return [*faults, *filter(None, [difference(told(events), (steps, end, what))])]
 
 
 def main():
-    parser = argparse.ArgumentParser(description=__doc__, formatter_class=argparse.RawDescriptionHelpFormatter)
+    parser = words_of(__doc__)
+    parser.add_argument("names", nargs="*", metavar="NAME", help=f"of {', '.join(TRIALS)}, all where there is none")
     parser.add_argument("--program", default=str(PROGRAM))
     asked = parser.parse_args()
     take_packages("workers in Python need")
     use_trimmed()
-    wrong = 0
-    for name, trial in TRIALS.items():
-        faults = tried(asked.program, name, trial)
-        wrong += bool(faults)
-        for fault in faults:
-            print(fault)
-    print(f"{len(TRIALS)} tried, {wrong} wrong")
-    return 1 if wrong else 0
+    need(parser, asked.program)
+    rows = {name: partial(faults_of, asked.program, trial) for name, trial in TRIALS.items()}
+    return try_rows(pick(parser, rows, asked.names).items(), asked, WAITING)
 
 
 if __name__ == "__main__":

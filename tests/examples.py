@@ -4,11 +4,10 @@ scenarios beside it, and `check --html` writes a page that is well formed, with 
 that leaves its state. A twin of a table for each of its promises breaks that one: `check` has to print the way that is written
 below, `try` to find that the twin follows it, and `check --html` to mark its rows.
 
-    tests/examples.py [--program PATH..]
+    tests/examples.py [TABLE..] [--program PATH..]
 
 The last line is `N tried, M wrong`, and the status is 1 where one is wrong."""
 
-import argparse
 import html
 import json
 import re
@@ -16,9 +15,11 @@ import subprocess
 import sys
 import tempfile
 import xml.etree.ElementTree as tree
+from functools import partial
 from pathlib import Path
 
-TOP = Path(__file__).resolve().parent.parent
+from rows import PROCESSORS, PROGRAM, TOP, need, pick, try_rows, words_of
+
 LIMIT_SECONDS = 60
 CLOSING = ("complete", "fail", "cancel", "again", "continue")
 # Twins of tables: what is another text in them, the number of the promise that they break, and the jobs of a shortest way, or
@@ -153,18 +154,19 @@ def faults_of_twins(program, path):
             yield f"twin of promise {number}: {fault}"
 
 
+def all_faults(program, path):
+    """What is wrong with a table, and with what is said of its twins."""
+    return [*faults_of(program, path), *faults_of_twins(program, path)]
+
+
 def main():
-    words = argparse.ArgumentParser(description=__doc__, formatter_class=argparse.RawDescriptionHelpFormatter)
-    words.add_argument("--program", nargs="+", default=[str(TOP / "crates/wfhost/out/wfhost")])
-    program = words.parse_args().program
-    tables, wrong = sorted((TOP / "examples/tables").glob("*.json")), 0
-    for path in tables:
-        faults = [*faults_of(program, path), *faults_of_twins(program, path)]
-        wrong += bool(faults)
-        for fault in faults:
-            print(f"examples/tables/{path.name}: {fault}")
-    print(f"{len(tables)} tried, {wrong} wrong")
-    return 1 if wrong or not tables else 0
+    parser = words_of(__doc__)
+    parser.add_argument("tables", nargs="*", metavar="TABLE", help="names of tables, all where there is none")
+    parser.add_argument("--program", nargs="+", default=[str(PROGRAM)])
+    asked = parser.parse_args()
+    need(parser, asked.program[0])
+    tables = {path.stem: partial(all_faults, asked.program, path) for path in sorted((TOP / "examples/tables").glob("*.json"))}
+    return try_rows(pick(parser, tables, asked.tables).items(), asked, PROCESSORS)
 
 
 if __name__ == "__main__":

@@ -11,14 +11,14 @@ stand-in has counted. Each loop prints a line; the last line is `N tried, M wron
     tests/loops.py --runs 30000 --mixed
 
 The loops of a seed are not the same twice, since the workers' threads are not. Whoever looks for the cause of a wrong one
-finds its histories and what its workers said in the folder that is named by --keep.
+finds below a wrong answer what came of the last tasks of its run, and in the folder that is named by --keep the histories and
+what the workers said.
 """
 
 import argparse
 import json
 import random
 import re
-import shutil
 import subprocess
 import sys
 import tempfile
@@ -27,7 +27,8 @@ from concurrent.futures import ThreadPoolExecutor
 from itertools import product
 from pathlib import Path
 
-from support import BRIDGE, ORDERS, PROGRAM, take_packages
+from rows import ORDERS, PROGRAM, need, try_rows, words_of
+from support import BRIDGE, take_packages
 
 from handlers import Till
 from peers import Settings
@@ -265,7 +266,7 @@ def add_options_of_kinds(parser):
 
 def options():
     """The command line."""
-    parser = argparse.ArgumentParser(description=__doc__, formatter_class=argparse.RawDescriptionHelpFormatter)
+    parser = words_of(__doc__)
     parser.add_argument("--runs", type=int, default=200, help="runs that are started in each loop")
     parser.add_argument("--open", type=int, default=100, help="how many of them are open at once")
     which = parser.add_mutually_exclusive_group()
@@ -285,8 +286,8 @@ def options():
     parser.add_argument("--mixed", action="store_true", help=f"for long loops: --tables --till --queries --kill {KILL_SECONDS:g} --processes 2 "
                         f"--part {PART} --at-once {AT_ONCE}")
     parser.add_argument("--part", type=int, default=0, help="a loop of more runs is done in parts of so many, each with a seed of its own")
-    parser.add_argument("--at-once", type=int, default=1, help="how many loops or parts are at work at once, each in a process of its own; "
-                        "most of their time goes to waits")
+    parser.add_argument("--at-once", type=int, help="how many loops or parts are at work at once, each in a process of its own (otherwise "
+                        "1); most of their time goes to waits")
     parser.add_argument("--grpc", action="store_true", help="through the bridge, over gRPC")
     parser.add_argument("--bridge", default=BRIDGE, help="with --grpc, another bridge")
     parser.add_argument("--away", type=float, default=3, help="with --grpc, for how many seconds the server is away each time")
@@ -303,12 +304,12 @@ def options():
         take_packages("--grpc needs")
     if found.mixed:
         mix(found)
+    found.at_once = found.at_once or 1
     found.limit = found.limit or max(LIMIT_SECONDS, RUN_SECONDS * found.runs)
     if found.kinds and not found.program:
         parser.error("--kinds wants the program that has them: --program PROGRAM")
     found.program = found.program or [str(ORDERS if found.orders else PROGRAM)]
-    if not shutil.which(found.program[0]):
-        parser.error(f"{found.program[0]} is not built")
+    need(parser, found.program[0])
     return found
 
 
@@ -316,7 +317,7 @@ def mix(asked):
     """Sets what --mixed asks for, where nothing else is asked for."""
     asked.tables, asked.till, asked.queries = True, asked.till or [str(ORDERS)], asked.queries or QUERIES
     asked.kill, asked.processes = asked.kill or KILL_SECONDS, max(asked.processes, 2)
-    asked.part, asked.at_once = asked.part or PART, max(asked.at_once, AT_ONCE)
+    asked.part, asked.at_once = asked.part or PART, asked.at_once or AT_ONCE
 
 
 def main():
@@ -324,11 +325,11 @@ def main():
     if asked.keep:
         Path(asked.keep).mkdir(parents=True, exist_ok=True)
     if asked.part and not asked.is_part:
-        return all_parts(asked)
+        return try_rows(all_parts(asked), asked)
     with tempfile.TemporaryDirectory() as folder:
         asked.policies = Path(folder, "policies.toml")
         asked.policies.write_text(POLICIES)
-        return all_loops(asked)
+        return try_rows(all_loops(asked), asked)
 
 
 def parts_of(asked):
@@ -347,30 +348,22 @@ def run_part(words):
 
 
 def all_parts(asked):
-    """Runs all loops in parts, some at once."""
-    begun, tried, wrong = time.monotonic(), 0, 0
+    """Runs all loops in parts, some at once: yields each part."""
+    begun = time.monotonic()
     with ThreadPoolExecutor(asked.at_once) as threads:
-        for lines in threads.map(run_part, parts_of(asked)):
-            tried, wrong = tried + 1, wrong + (lines[-1:] != ["1 tried, 0 wrong"])
+        for number, lines in enumerate(threads.map(run_part, parts_of(asked)), 1):
             print("\n".join(lines[:-1]), flush=True)
+            yield f"part {number}", "" if lines[-1:] == ["1 tried, 0 wrong"] else f"it ends with {lines[-1:]}"
     print(f"{asked.runs} runs in parts of {asked.part}, {asked.at_once} at once: {time.monotonic() - begun:.0f} s")
-    print(f"{tried} tried, {wrong} wrong")
-    return 1 if wrong else 0
 
 
 def all_loops(asked):
-    tried = wrong = 0
+    """Runs all loops: yields each, with what is wrong."""
     for seed, workers, cache in product(asked.seeds, asked.workers, asked.cache):
         loop = Loop(asked, seed, workers, cache)
         faults = loop.run()
-        tried, wrong = tried + 1, wrong + bool(faults)
         print(loop.line(), flush=True)
-        for fault in faults[:20]:
-            print(f"  {fault}", flush=True)
-        if len(faults) > 20:
-            print(f"  and {len(faults) - 20} more", flush=True)
-    print(f"{tried} tried, {wrong} wrong")
-    return 1 if wrong else 0
+        yield loop.title, faults
 
 
 if __name__ == "__main__":

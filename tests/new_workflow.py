@@ -7,9 +7,11 @@ import re
 import subprocess
 import sys
 import tempfile
+from itertools import chain
 from pathlib import Path
 
-TOP = Path(__file__).resolve().parent.parent
+from rows import TOP, try_rows, words_of
+
 LIMIT_SECONDS = 1_800
 # Names that are refused, each with what is said of it.
 BAD_NAMES = {"reminder": "is no name of a workflow type", "Order-Refund": "is no name of a workflow type",
@@ -54,11 +56,11 @@ def made(folder):
     yield "crates.txt", "" if sorted(listed) == there else f"it has {listed}"
 
 
-def tried(folder):
+def tried(folder, has_program):
     """Yields what should pass in the folder, each with what is wrong."""
     ran = run(["rt", "try", "--test"], folder / "crates/order_refund")
     yield "its scenarios", "" if "2 passed; 0 failed" in ran.stdout + ran.stderr else (ran.stdout + ran.stderr)[-2_000:]
-    if "--program" in sys.argv[1:]:
+    if has_program:
         worker = folder / "crates/order_refund_worker"
         ran = run(["rt", "try", "--", "replay", str(worker / "data/histories")], worker)
         said = ran.stdout + ran.stderr
@@ -66,16 +68,12 @@ def tried(folder):
 
 
 def main():
-    count = wrong = 0
+    parser = words_of(__doc__)
+    parser.add_argument("--program", action="store_true", help="tries the program of what is made too")
+    asked = parser.parse_args()
     with tempfile.TemporaryDirectory() as room:
         folder = Path(room, "shop")
-        for part in (refusals(Path(room)), made(folder), tried(folder)):
-            for what, fault in part:
-                count, wrong = count + 1, wrong + bool(fault)
-                if fault:
-                    print(f"{what}: {fault}", flush=True)
-    print(f"{count} tried, {wrong} wrong")
-    return 1 if wrong else 0
+        return try_rows(chain(refusals(Path(room)), made(folder), tried(folder, asked.program)), asked)
 
 
 if __name__ == "__main__":

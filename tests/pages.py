@@ -6,15 +6,15 @@ Each page is read by a parser: its tags balance, nothing in it runs or is fetche
 times of the picture are those of the table. Its verdict is the line of `replay`, the event that is marked is the one that the
 line names, and both sides of a difference are those that `replay` tells. Whatever the history holds stands as text: a history
 whose names are hostile has the very tags of the same history with plain names. A run of a table has that table with marks at the
-rows that it took, and no other page has one.
+rows that it took, and no other page has one; docs/canceled_order.svg is that of examples/runs/canceled_order.json.
 
     tests/pages.py [--program PATH]       crates/wfhost/out/wfhost, where it isn't given
     .. --sizes                            prints how large each page is, and how long it took
     .. --shots FOLDER                     then pictures of some pages by Chromium: wide and narrow, light and dark
+    .. --draw                             writes docs/canceled_order.svg
 
 The last line is `N tried, M wrong`."""
 
-import argparse
 import base64
 import copy
 import datetime
@@ -26,10 +26,14 @@ import sys
 import tempfile
 import time
 from html.parser import HTMLParser
+from itertools import chain
 from pathlib import Path
 
-TOP = Path(__file__).resolve().parent.parent
+from rows import PROGRAM, TOP, need, try_rows, words_of
+
 EXAMPLES = TOP / "examples" / "histories"
+RUN = TOP / "examples" / "runs" / "canceled_order.json"
+DRAWING = TOP / "docs" / "canceled_order.svg"
 VOID = {"meta"}
 KNOWN = set(
     "html head meta title style body header h1 h2 h3 p dl div dt dd main section pre code svg desc defs pattern line"
@@ -44,6 +48,11 @@ HOSTILE = (
 STAMP = r"\d+-\d\d-\d\d \d\d:\d\d:\d\d(?:\.\d+)?"
 WIDTHS = {"wide": 1280, "narrow": 420}
 EVENTS = 51_200
+# The names in two histories that are alike otherwise.
+NAMES = {
+    "plain": [f"plain-{i}" for i in range(8)] + ["PlainType"],
+    "hostile": [(f"{i}{HOSTILE}" + f"{i}<b>long</b> \"name\" 'of' a & thing, " * 9)[:255] for i in range(9)],
+}
 
 
 def seen(text, most):
@@ -307,6 +316,17 @@ def judge_way(page):
     return wrong
 
 
+def drawing_of(html):
+    """The table of a run as a picture by itself: with the styles that it takes from its page, and the ground on which it stands."""
+    style, picture = re.search(r"<style>\n(.*?)</style>.*?(<svg class=\"marked\".*?</svg>\n)", html, re.DOTALL).groups()
+    taken = [line for line in style.splitlines() if re.match(r":root|@media \(prefers-color-scheme|svg(?: text)?\{", line)]
+    # It is as large as the place that it is given.
+    taken = [re.sub(r"^svg\{.*?(?=font:)", "svg{", line) for line in taken]
+    picture = re.sub(r'(<svg )(class="marked" viewBox="[^"]*").*?>', r'\1xmlns="http://www.w3.org/2000/svg" \2>', picture, count=1)
+    picture = picture.replace(' id="way-words"', "", 1).replace("<style>\n", "<style>\n" + "\n".join(taken) + "\n", 1)
+    return picture.replace("</style>\n", '</style>\n<rect width="100%" height="100%" style="fill:var(--panel)"/>\n', 1)
+
+
 def uneven(record):
     """A history of the sample Nap, which starts one timer, with this record of its first task."""
     history = History()
@@ -437,64 +457,71 @@ def shoot(pages, folder):
                 subprocess.run(command + [file.as_uri()], stdout=subprocess.DEVNULL, stderr=subprocess.DEVNULL, timeout=200)
 
 
+def histories():
+    """The histories that are tried, by name, as texts."""
+    texts = {name: json.dumps(whole) for name, whole in edited()}
+    second = ("ActivityTaskScheduled", {"activityId": "2", "activityType": {"name": "more"}})
+    texts |= {"no-event": uneven([]), "other": uneven([second]), "crowded": crowded()}
+    texts |= {name: named(given) for name, given in NAMES.items()} | {"big": big()}
+    worded = [one[:60].replace(" ", "_") for one in NAMES["hostile"]]
+    return texts | {"table": tabled(NAMES["plain"][:8]), "hostile-table": tabled(worded[:8])}
+
+
+def trials(program, room, pages, has_sizes):
+    """Yields each page with what is wrong with it; the pages are kept."""
+    for name, text in histories().items():
+        file = room / f"{name}.json"
+        file.write_text(text)
+        for recorded in (False, True):
+            key = name + "-recorded" * recorded
+            page, took, faults = tried(program, file, name, recorded)
+            pages[key] = page
+            said = "".join(page.texts)
+            faults += [f"no text {one!r}" for one in NAMES.get(name, ()) if seen(one, 300) not in said]
+            like = {"hostile": "plain", "hostile-table": "table"}.get(name)
+            if like and page.tags != pages[like + "-recorded" * recorded].tags:
+                faults.append("other tags than with plain names")
+            if name in ("table", "hostile-table") and not recorded:
+                faults += judge_way(page)
+            elif "way" in page.ids:
+                faults.append("a table of a run that has none")
+            yield key, faults
+            if has_sizes:
+                print(f"{key}: {len(text.encode()):,} bytes of history, {len(page.html.encode()):,} of page, {took:.2f} s")
+    for bad, text in (("no-json", "{"), ("no-events", "{}")):
+        file = room / f"{bad}.json"
+        file.write_text(text)
+        one, other = program.run("explain", "--html", file), program.run("explain", "--recorded", file)
+        is_right = not one.stdout and (one.returncode, one.stderr) == (other.returncode, other.stderr)
+        yield bad, "" if is_right else f"{one} in place of {other}"
+
+
+def shown(program, draws):
+    """The picture of docs/, with what is wrong with it; it is drawn anew if that is asked for."""
+    drawing = drawing_of(program.run("explain", "--html", RUN).stdout.decode())
+    if draws:
+        DRAWING.write_text(drawing)
+    is_right = DRAWING.read_text() == drawing
+    return DRAWING.name, "" if is_right else f"it is not the picture of {RUN}: --draw writes it"
+
+
 def main():
-    parser = argparse.ArgumentParser()
-    parser.add_argument("--program", default=str(TOP / "crates" / "wfhost" / "out" / "wfhost"))
+    parser = words_of(__doc__)
+    parser.add_argument("--program", default=str(PROGRAM))
     parser.add_argument("--sizes", action="store_true")
     parser.add_argument("--shots", type=Path)
-    words = parser.parse_args()
-    program = Program(words.program)
+    parser.add_argument("--draw", action="store_true")
+    asked, pages = parser.parse_args(), {}
+    need(parser, asked.program)
+    program = Program(asked.program)
     if "--html" not in program.run("explain", "--help").stdout.decode():
-        sys.exit("pages: the program makes no pages")
-    plain = [f"plain-{i}" for i in range(8)] + ["PlainType"]
-    hostile = [(f"{i}{HOSTILE}" + f"{i}<b>long</b> \"name\" 'of' a & thing, " * 9)[:255] for i in range(9)]
-    count = wrong = 0
-    pages = {}
-    with tempfile.TemporaryDirectory() as path:
-        room = Path(path)
-        texts = {name: json.dumps(whole) for name, whole in edited()}
-        second = ("ActivityTaskScheduled", {"activityId": "2", "activityType": {"name": "more"}})
-        texts |= {"no-event": uneven([]), "other": uneven([second]), "crowded": crowded()}
-        texts |= {"plain": named(plain), "hostile": named(hostile), "big": big()}
-        worded = [one[:60].replace(" ", "_") for one in hostile]
-        texts |= {"table": tabled(plain[:8]), "hostile-table": tabled(worded[:8])}
-        for name, text in texts.items():
-            file = room / f"{name}.json"
-            file.write_text(text)
-            for recorded in (False, True):
-                key = name + "-recorded" * recorded
-                page, took, faults = tried(program, file, name, recorded)
-                pages[key] = page
-                if name in ("plain", "hostile"):
-                    given = plain if name == "plain" else hostile
-                    said = "".join(page.texts)
-                    faults += [f"no text {one!r}" for one in given if seen(one, 300) not in said]
-                if name == "hostile" and page.tags != pages[key.replace("hostile", "plain")].tags:
-                    faults.append("other tags than with plain names")
-                if name == "hostile-table" and page.tags != pages[key.replace("hostile-", "")].tags:
-                    faults.append("other tags than with plain names")
-                if name in ("table", "hostile-table") and not recorded:
-                    faults += judge_way(page)
-                elif "way" in page.ids:
-                    faults.append("a table of a run that has none")
-                count += 1
-                wrong += bool(faults)
-                for fault in faults[:10]:
-                    print(f"pages: {key}: {fault}", flush=True)
-                if words.sizes:
-                    print(f"{key}: {len(text.encode()):,} bytes of history, {len(page.html.encode()):,} of page, {took:.2f} s")
-        for bad, text in (("no-json", "{"), ("no-events", "{}")):
-            file = room / f"{bad}.json"
-            file.write_text(text)
-            one, other = program.run("explain", "--html", file), program.run("explain", "--recorded", file)
-            count += 1
-            if one.stdout or (one.returncode, one.stderr) != (other.returncode, other.stderr):
-                wrong += 1
-                print(f"pages: {bad}: {one} in place of {other}", flush=True)
-    if words.shots and shutil.which("chromium"):
-        shoot({name: pages[name] for name in ("nap", "racer-id-6", "crowded", "hostile", "big", "table") if name in pages}, words.shots)
-    print(f"{count} tried, {wrong} wrong")
-    return 1 if wrong else 0
+        parser.error("the program makes no pages")
+    with tempfile.TemporaryDirectory() as room:
+        rows = chain(trials(program, Path(room), pages, asked.sizes), [shown(program, asked.draw)])
+        status = try_rows(rows, asked)
+    if asked.shots and shutil.which("chromium"):
+        shoot({name: pages[name] for name in ("nap", "racer-id-6", "crowded", "hostile", "big", "table") if name in pages}, asked.shots)
+    return status
 
 
 if __name__ == "__main__":

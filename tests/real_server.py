@@ -37,7 +37,8 @@ from collections import Counter
 from pathlib import Path
 
 import support
-from support import ANSWER, CALL_SECONDS, NOT_FOUND, PAGE, PROGRAM, RESULT, STAND_IN, TASK, Client, Wrong, free_port, page_of, payloads
+from rows import PROGRAM, Wrong, soon
+from support import ANSWER, CALL_SECONDS, NOT_FOUND, PAGE, RESULT, STAND_IN, TASK, Client, free_port, page_of, payloads
 
 from history import CARRIED_OVER
 from messages import attributes_name
@@ -66,7 +67,7 @@ STARTED, CONTINUED = "workflowExecutionStartedEventAttributes", "workflowExecuti
 SIGNALED, UNKNOWN_TYPE, UNKNOWN_QUERY = 26, 999, "unknown query type weather; known: none"
 # The trouble that a proxy makes, in this order; and what is left out, and why.
 TROUBLES = ("refused_polls", "late_polls", "lost_responses", "refused_pages", "unknown_events", "busy_runs")
-LEFT_OUT = {"busy_runs": "the host does not answer the queries of a task with the task yet"}
+LEFT_OUT = {}
 # Each channel has a connection of its own, and takes messages of any size.
 CHANNEL_OPTIONS = (("grpc.use_local_subchannel_pool", 1), ("grpc.max_receive_message_length", -1))
 # For how many seconds the proxy lets a poll wait; after how many milliseconds it ends a connection, and its calls.
@@ -324,7 +325,7 @@ class Trouble:
         return execution
 
     def wait(self, what, condition):
-        support.soon(what, condition, TASK_SECONDS)
+        soon(what, condition, TASK_SECONDS)
 
     def are_closed(self, runs):
         self.wait(f"{len(runs)} runs are closed", lambda: not any(map(self.client.is_open, runs)))

@@ -1,13 +1,24 @@
 #!/usr/bin/env python3
 """Tries the stand-in itself, by a worker that needs no built program (tests/small_worker.py): as it is, nothing may be wrong
-with it, under all trouble and kills; and with a mistake now and then, the loop has to find that mistake. The last line is
-`N tried, M wrong`, and the status is 1 where one is wrong."""
+with it, under all trouble and kills; and with a mistake now and then, the loop has to find that mistake. Then by single calls,
+whose order is that of a row: a worker that answers from a run which it may have cached is not blamed, any other is. The last
+line is `N tried, M wrong`, and the status is 1 where one is wrong."""
 
 import subprocess
 import sys
-from pathlib import Path
+from functools import partial
 
-TOP = Path(__file__).resolve().parent.parent
+from rows import TOP, try_rows, words_of
+
+sys.path.insert(1, str(TOP / "standin"))
+sys.dont_write_bytecode = True
+
+from peers import Peer, Settings  # noqa: E402
+from server import Server  # noqa: E402
+from troubles import Troubles  # noqa: E402
+from workflows import Own  # noqa: E402
+from world import World  # noqa: E402
+
 LOOPS, WORKER = TOP / "tests/loops.py", f"{sys.executable} {TOP / 'tests/small_worker.py'}"
 LIMIT_SECONDS = 300
 # The words of a loop, the mistake that its worker makes, and what the loop has to say then.
@@ -27,6 +38,95 @@ ROWS = [
     ("--tables --runs 200 --trouble beaten --till", "beat", "it beats with"),
     ("--tables --runs 300 --trouble beaten --till", "taken", "PrintLabels b'activity"),
 ]
+# What comes to a run and what its worker of two pollers does, in order, and what the stand-in has to say of that. A `poll` is one
+# of the sticky queue, `normal` one of the other. An answer to a task of the sticky queue without `fetch` is from a cached run.
+BLAMED = "worker: nap was answered from a cached run that ends in "
+TALKS = [
+    ("normal poll start answer poll signal answer", ""),
+    ("normal poll start answer poll signal fetch answer", ""),
+    ("normal poll start answer signal fetch answer poll poll signal answer", ""),
+    ("normal poll start lost answer poll signal answer", BLAMED + "None, not 3"),
+    ("normal poll start lost answer poll signal fetch answer", ""),
+    ("normal poll start answer poll signal lost answer poll signal answer", BLAMED + "3, not 7"),
+    # The task of an update is discarded, and the run that was cached before is not cached any more.
+    ("normal poll start answer poll update answer poll signal answer", BLAMED + "None, not 3"),
+    ("normal poll start answer poll update fetch answer poll signal answer", BLAMED + "None, not 3"),
+    ("normal poll start answer poll update fetch answer poll signal fetch answer", ""),
+    ("normal normal start answer normal update leave answer poll signal answer", BLAMED + "None, not 3"),
+    # That task comes before a poller has read the response to the answer before, and caches the run then.
+    ("normal poll start answer update fetch answer poll signal answer", ""),
+    ("normal normal start answer update leave answer poll signal answer", ""),
+    ("normal poll start answer update fetch answer poll signal answer poll update answer poll signal answer", BLAMED + "None, not 7"),
+    ("normal poll start answer update answer poll signal answer", BLAMED + "None, not 3"),
+]
+
+
+class Planned(Troubles):
+    """The trouble that is planned next, and no other."""
+
+    planned = None
+
+    def happens(self, name):
+        is_now = name == self.planned
+        if is_now:
+            self.planned = None
+        return is_now
+
+
+class Talk:
+    """A server, and a worker that calls it by words."""
+
+    def __init__(self):
+        self.troubles, self.task = Planned(1, ()), None
+        world = World(self.troubles, Own(self.troubles.dice, ("Nap",), {}, ()), 0, 0)
+        self.server, self.peer = Server(Settings(), self.troubles, world), Peer("worker", 2)
+        self.server.peers.append(self.peer)
+
+    def call(self, method, reply, **params):
+        self.server.call(self.peer, method, {"namespace": "default", **params}, reply)
+
+    sticky = {"kind": "TASK_QUEUE_KIND_STICKY", "name": "worker:q", "normalName": "q"}
+
+    def poll(self, queue=sticky):
+        self.call("PollWorkflowTaskQueue", self.take, identity="worker", taskQueue=queue)
+
+    def normal(self):
+        self.poll({"kind": "TASK_QUEUE_KIND_NORMAL", "name": "q"})
+
+    def take(self, task, error):
+        self.task = task
+
+    def fetch(self):
+        self.call("GetWorkflowExecutionHistory", lambda *_: None, execution=self.run.execution)
+
+    def answer(self):
+        sticky = {"scheduleToStartTimeout": "10s", "workerTaskQueue": self.sticky}
+        words = {"identity": "worker", "taskToken": self.task["taskToken"], "stickyAttributes": sticky}
+        self.call("RespondWorkflowTaskCompleted", lambda *_: None, **words)
+
+    def lost(self):
+        self.troubles.planned = "lost"
+
+    def start(self):
+        self.run = self.server.runs.start("Nap", "nap")
+
+    def signal(self):
+        self.server.runs.signal(self.run, "noise")
+
+    def update(self):
+        self.troubles.planned = "speculative"
+        self.server.runs.update(self.run)
+
+    def leave(self):
+        self.run.leave_sticky(False)
+
+
+def talked(words):
+    """What the stand-in has found."""
+    talk = Talk()
+    for word in words.split():
+        getattr(talk, word)()
+    return "\n".join(talk.server.findings.wrong)
 
 
 def said(words, mistake):
@@ -38,16 +138,19 @@ def said(words, mistake):
     return subprocess.run(command, capture_output=True, text=True, timeout=LIMIT_SECONDS).stdout
 
 
-def main():
-    wrong = 0
-    for words, mistake, wanted in ROWS:
-        found = said(words, mistake)
-        if wanted not in found:
-            wrong += 1
-            print(f"{words} {mistake}: no `{wanted}` in\n{found}")
-    print(f"{len(ROWS)} tried, {wrong} wrong")
-    return 1 if wrong else 0
+def fault_of(words, mistake, wanted):
+    """What is wrong with what a loop says."""
+    found = said(words, mistake)
+    return "" if wanted in found else f"no `{wanted}` in\n{found}"
+
+
+def fault_of_talk(words, wanted):
+    """What is wrong with what a talk comes to."""
+    found = talked(words)
+    return "" if found.startswith(wanted) and bool(found) == bool(wanted) else f"not `{wanted}`, but\n{found}"
 
 
 if __name__ == "__main__":
-    sys.exit(main())
+    rows = [(f"{words} {mistake}".strip(), partial(fault_of, words, mistake, wanted)) for words, mistake, wanted in ROWS]
+    rows += [(words, partial(fault_of_talk, words, wanted)) for words, wanted in TALKS]
+    sys.exit(try_rows(rows, words_of(__doc__).parse_args()))

@@ -13,9 +13,10 @@ import sys
 import tempfile
 from pathlib import Path
 
-TOP = Path(__file__).resolve().parent.parent
-sys.path.insert(0, str(TOP))
-import launcher
+from rows import TOP, difference, try_rows, words_of
+
+sys.path.insert(1, str(TOP))
+import launcher  # noqa: E402
 
 LIMIT_SECONDS = 60
 ALL, REPLAY, FILES, TABLES, SERVE = "wfhost", "wfhost_replay", "wfhost_files", "wfhost_tables", "wfhost_serve"
@@ -36,6 +37,7 @@ PROGRAMS = [
     ("reply examples/histories", REPLAY),
     ("--build", ALL),
     ("--build serve", SERVE),
+    ("--build replay", REPLAY),
     ("--unproved explain nap.json", FILES),
     ("--unproved work --task-queue orders", ALL),
 ]
@@ -53,6 +55,8 @@ STARTS = [
     ([REPLAY, ALL], [], "--build", "launcher"),
     ([REPLAY, ALL], [], "--build replay", "launcher"),
 ]
+# Words that are refused, with nothing built or started.
+REFUSED = ["--build reply", "--build replay histories", "--build --help"]
 # What stands in for rt: it notes its crate and its command, and leaves what rt leaves, unless it is to fail in that crate. In one
 # crate it says that it did not begin from nothing.
 RT = """#!/bin/sh
@@ -153,9 +157,8 @@ def build(folder, program, is_old):
 
 def run_in(folder, words, environment=None):
     """Runs `./wfhost` there with these words."""
-    command, nowhere = ["sh", folder / "wfhost", *words.split()], subprocess.DEVNULL
-    ran = subprocess.run(command, env=environment, stdout=subprocess.PIPE, stderr=nowhere, timeout=LIMIT_SECONDS, encoding="utf-8")
-    return ran
+    command, pipe = ["sh", folder / "wfhost", *words.split()], subprocess.PIPE
+    return subprocess.run(command, env=environment, stdout=pipe, stderr=pipe, timeout=LIMIT_SECONDS, encoding="utf-8")
 
 
 def started(built, old, words):
@@ -166,6 +169,15 @@ def started(built, old, words):
         for program in built:
             build(folder, program, program in old)
         return run_in(folder, words).stdout.strip()
+
+
+def refused(words):
+    """What `./wfhost` prints with these words, its status, and how many lines say why."""
+    with tempfile.TemporaryDirectory() as made:
+        folder = Path(made)
+        make_top(folder)
+        ran = run_in(folder, words)
+    return ran.stdout, ran.returncode, len(ran.stderr.splitlines())
 
 
 def builds():
@@ -202,6 +214,8 @@ def tries():
     for built, old, words, wanted in STARTS:
         came = started(built, old, words)
         yield f"./wfhost {words}, built {built}, old {old}", wanted, came.split(" ")[0]
+    for words in REFUSED:
+        yield f"./wfhost {words}", ("", 2, 1), refused(words)
     yield from builds()
     for text, lanes, seconds in SCHEDULES:
         yield f"{lanes} lanes for {text}", seconds, round(launcher.simulated(*table_of(text), lanes))
@@ -218,16 +232,6 @@ def tries():
     yield "the names in costs.txt that are no crates", [], unlisted
 
 
-def main():
-    tried = wrong = 0
-    for what, wanted, came in tries():
-        tried += 1
-        if wanted != came:
-            wrong += 1
-            print(f"{what}: wanted {wanted}, got {came}")
-    print(f"{tried} tried, {wrong} wrong")
-    return 1 if wrong else 0
-
-
 if __name__ == "__main__":
-    sys.exit(main())
+    asked = words_of(__doc__).parse_args()
+    sys.exit(try_rows(((what, difference(came, wanted)) for what, wanted, came in tries()), asked))

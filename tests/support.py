@@ -1,7 +1,6 @@
-"""What scripts share that try live work: a Python that has gRPC, what is wrong and how it is told, ports and pages, a bridge whose
-worker is talked to, and a client of a server."""
+"""What scripts share that try live work: a Python that has gRPC, ports and pages, a bridge whose worker is talked to, and a client
+of a server."""
 
-import argparse
 import base64
 import importlib
 import json
@@ -14,22 +13,17 @@ import time
 import urllib.error
 import urllib.request
 import uuid
-from concurrent.futures import ThreadPoolExecutor
-from pathlib import Path
+
+from rows import TOP, Wrong, same
 
 SYSTEM = "/usr/bin/python3"  # Debian's packages python3-grpcio and python3-protobuf are for this one.
-TOP = Path(__file__).resolve().parent.parent
 STAND_IN = TOP / "standin"
 if str(STAND_IN) not in sys.path:
     sys.path.insert(1, str(STAND_IN))
-sys.dont_write_bytecode = True
 TRIMMED = STAND_IN / "trimmed"
 BRIDGE = TOP / "bridge/temporal_bridge.py"
-PROGRAM, ORDERS = (TOP / f"crates/{name}/out/{name}" for name in ("wfhost", "order_worker"))
 SERVICE = "/temporal.api.workflowservice.v1.WorkflowService/"
 LIMIT_SECONDS = 30
-# How many tries run at once.
-AT_ONCE = 4
 # For how long a client makes a call again, and after which codes.
 CALL_SECONDS, PASSING = 10, (2, 4, 8, 10, 14)
 NOT_FOUND, RUNNING = 5, 1
@@ -61,10 +55,6 @@ os._exit(99)
 """
 
 
-class Wrong(Exception):
-    """What is not as it should be."""
-
-
 def take_packages(who):
     """Goes on under a Python that has grpcio and protobuf; without one, ends with the line `skipped: WHY`."""
     for name in ("grpc", "google.protobuf"):
@@ -81,76 +71,6 @@ def use_trimmed():
     """Takes the stand-in's messages in the place of those of Temporal's package, here and in what is started from here."""
     sys.path.insert(0, str(TRIMMED))
     os.environ["PYTHONPATH"] = os.pathsep.join(filter(None, [str(TRIMMED), os.environ.get("PYTHONPATH")]))
-
-
-# What is wanted.
-
-
-def same(what, found, wanted):
-    if found != wanted:
-        raise Wrong(f"{what}: {found!r}, not {wanted!r}")
-
-
-def has(what, found, wanted):
-    if wanted not in found:
-        raise Wrong(f"{what}: {found!r}, without {wanted!r}")
-
-
-def soon(what, condition, within=10.0):
-    """Waits until the condition holds: after how many seconds it does."""
-    begun = time.monotonic()
-    while not condition():
-        if time.monotonic() - begun > within:
-            raise Wrong(f"not within {within} s: {what}")
-        time.sleep(0.01)
-    return time.monotonic() - begun
-
-
-def fault_of(one):
-    """What is wrong in a try; nothing where all is as it should be."""
-    try:
-        one()
-    except Wrong as why:
-        return str(why)
-    except Exception as why:
-        return f"{type(why).__name__}: {why}"
-    return ""
-
-
-class Tries:
-    """Functions that are tries: those of the gate, those that take long, and those that are left out, each with the reason."""
-
-    def __init__(self, doc, gate, long=(), left_out=None):
-        self.gate, self.long, self.left_out = list(gate), list(long), left_out or {}
-        shape = argparse.RawDescriptionHelpFormatter
-        self.parser = argparse.ArgumentParser(description=doc, formatter_class=shape)
-        self.parser.add_argument("--long", action="store_true", help="also those that take long")
-        self.parser.add_argument("--times", action="store_true", help="prints how many seconds each takes")
-        every = [one.__name__ for one in self.gate + self.long + list(self.left_out)]
-        self.parser.add_argument("names", nargs="*", metavar="NAME", choices=[[], *every])
-
-    def run(self, asked):
-        """Tries those that are asked for, or all; prints what is wrong, and gives the exit status."""
-        named = [one for one in self.gate + self.long + list(self.left_out) if one.__name__ in asked.names]
-        tries, took, wrong = named or self.gate + self.long * asked.long, {}, 0
-
-        def timed(one):
-            begun = time.monotonic()
-            fault = fault_of(one)
-            took[one] = time.monotonic() - begun
-            return fault
-
-        with ThreadPoolExecutor(AT_ONCE) as threads:
-            for one, fault in zip(tries, threads.map(timed, tries)):
-                if asked.times:
-                    print(f"{one.__name__}: {took[one]:.1f} s", flush=True)
-                if fault:
-                    wrong += 1
-                    print(f"{one.__name__}: {fault}", flush=True)
-        for one, why in self.left_out.items() if not named else ():
-            print(f"{one.__name__} is left out: {why}")
-        print(f"{len(tries)} tried, {wrong} wrong")
-        return 1 if wrong else 0
 
 
 # Ports and pages.

@@ -3,6 +3,7 @@
 docs/WORKFLOWS-WITHOUT-CODE.md says what a table means. This is written from that page alone, so that tests can compare."""
 
 import json
+from typing import NamedTuple, Tuple
 
 MOST_ROWS, MOST_COMMANDS, MOST_PHRASES, MOST_COUNTERS = 200, 64, 16, 4
 MOST_SECONDS, MOST_PAYLOADS = 315_576_000_000, 65_536
@@ -104,9 +105,33 @@ class Row:
     def next(self):
         return self.state if self.after == "same" else self.after
 
+    def fits(self, at, job, name):
+        """Whether the row is for a job where a run stands."""
+        return self.state in ("any", at.state) and is_for(self.job, job, name) and all(
+            (at.counts[counter] < bound) == (sign == "<") for sign, counter, bound in self.conditions
+        )
+
+
+class At(NamedTuple):
+    """Where a run stands: its state, whether it is closed, and its counters."""
+
+    state: str
+    closed: bool
+    counts: Tuple[int, ...]
+
+
+def is_for(wanted, job, name=""):
+    """Whether a row's job is that one: @ in it stands for the name. What comes with a job is of no account."""
+    kind, *words = (name if word == "@" else word for word in wanted)
+    if kind == "child-failed":
+        return job[0] in ("child-failed", "child-canceled") and words[0] == job[1]
+    if kind in ("version", "any-version"):
+        return job[0] == "version" and words == list(job[1 : 1 + len(words)])
+    return kind == job[0] and (kind in ("start", "cancel") or words[0] == job[1])
+
 
 class Table:
-    """A table, from its text. A Fault says why there is none."""
+    """A table, from its text, whatever rules it breaks. A Fault says why there is none."""
 
     def __init__(self, content):
         value = self.parsed(content)
@@ -125,8 +150,24 @@ class Table:
         if not self.rows:
             raise Fault("the table has no row")
         self.first = self.rows[0].state
-        for place, row in enumerate(self.rows):
-            self.numbered(place + 1, self.judge, row, place)
+        self.start = At(self.first, False, (0,) * len(self.counters))
+
+    # ---- Runs
+
+    def place_for(self, at, job, name=""):
+        """The place of the row that a job takes where a run stands: the first that fits, or None."""
+        places = () if at.closed else range(len(self.rows))
+        return next((place for place in places if self.rows[place].fits(at, job, name)), None)
+
+    def after(self, at, row):
+        """Where a run stands after a row."""
+        counts = list(at.counts)
+        for kind, *counters in row.marks:
+            for counter in counters:
+                counts[counter] = min(counts[counter] + 1, self.bound(counter)) if kind == "up" else 0
+        return At(at.state if row.after == "same" else row.after, row.closes(), tuple(counts))
+
+    # ---- Texts
 
     @staticmethod
     def parsed(content):
@@ -242,10 +283,15 @@ class Table:
 
     # ---- Rules
 
+    def check(self):
+        """A Fault says which row breaks a rule first, and which one."""
+        for place, row in enumerate(self.rows):
+            self.numbered(place + 1, self.judge, row, place)
+
     def bound(self, counter):
         return self.counters[counter][1]
 
-    def is_for(self, state):
+    def has_row_of(self, state):
         return any(row.state == state for row in self.rows)
 
     def hears(self, state, change, given):
@@ -257,7 +303,7 @@ class Table:
         return False
 
     def judge(self, row, place):
-        """The rules, in their order."""
+        """The rules, in their order. A RowFault says which one the row breaks."""
         asked = [command for command in row.commands if command[0] == "ask"]
         opened = [command[:2] for command in row.commands if command[0] in OPENING]
         bounded = all(bound <= self.bound(counter) for _, counter, bound in row.conditions)
@@ -273,7 +319,7 @@ class Table:
             raise RowFault("it asks for a range of versions that is none")
         if row.state == "same":
             raise RowFault("no state has the name same")
-        if not row.closes() and row.after != "same" and (row.after == "any" or not self.is_for(row.after)):
+        if not row.closes() and row.after != "same" and (row.after == "any" or not self.has_row_of(row.after)):
             raise RowFault("no row is for the state that it leads to")
         led = any(one.after == row.state and one.state != row.state and not one.closes() for one in self.rows)
         if row.state not in ("any", self.first) and not led:
@@ -310,6 +356,16 @@ def hides(earlier, later):
     return all(any(implies(one, wanted) for one in later.conditions) for wanted in earlier.conditions)
 
 
+def job_in_rows(job):
+    """A job of a run, as rows write it: by the end of an activity or a child, with what it brought."""
+    if job[0] == "activity":
+        return ("done" if job[2] == "completed" else "failed", job[1], job[3])
+    if job[0] == "child":
+        kind = {"completed": "child-done", "canceled": "child-canceled"}.get(job[2], "child-failed")
+        return (kind, job[1], job[3])
+    return job
+
+
 class Run:
     """A run of a table: it is given jobs, and gives commands.
 
@@ -323,17 +379,19 @@ class Run:
         try:
             if not payloads:
                 raise Fault("there is no table")
-            self.table = Table(payloads[0])
+            table = Table(payloads[0])
+            table.check()
+            self.table = table
         except Fault as fault:
             self.fault = str(fault)
-        self.input, self.kept, self.closed = payloads[1:], [], False
-        self.name = self.named()
-        self.state = self.table.first if self.table else ""
-        self.counts = [0] * MOST_COUNTERS
+        self.input, self.kept, self.name = payloads[1:], [], ""
+        self.at = At("", True, ())
+        if self.table:
+            self.name, self.at = self.named(), self.table.start
 
     def named(self):
         """The name that @ stands for."""
-        if self.table is None or self.table.name is None:
+        if self.table.name is None:
             return ""
         place, prefix, other = self.table.name
         if place < len(self.input):
@@ -347,66 +405,35 @@ class Run:
     def begin(self):
         """What the start gives."""
         if self.fault is not None:
-            self.closed = True
             return [("Fail", self.fault)]
         return self.step(("start", self.input))
 
     def id(self, text):
         return self.name if text == "@" else text
 
-    def fits(self, row, job):
-        if self.closed or row.state not in ("any", self.state):
-            return False
-        if not self.is_for(row.job, job):
-            return False
-        return all(
-            (self.counts[counter] < bound) == (sign == "<") for sign, counter, bound in row.conditions
-        )
-
-    def is_for(self, wanted, job):
-        kind, names = wanted[0], [self.id(word) if isinstance(word, str) else word for word in wanted[1:]]
-        if job[0] == "activity":
-            return kind == ("done" if job[2] == "completed" else "failed") and names[0] == job[1]
-        if job[0] == "child":
-            kinds = {"completed": ("child-done",), "canceled": ("child-canceled", "child-failed")}
-            return kind in kinds.get(job[2], ("child-failed",)) and names[0] == job[1]
-        if job[0] == "version":
-            return names[:1] == [job[1]] and (kind == "any-version" or kind == "version" and names[1] == job[2])
-        if job[0] in ("start", "cancel"):
-            return kind == job[0]
-        return kind == job[0] and names[0] == job[1]
-
     @staticmethod
     def brought(job):
         if job[0] == "start":
             return job[1]
-        if job[0] == "signal":
-            return job[2]
-        if job[0] in ("activity", "child") and job[2] == "completed":
-            return job[3]
-        return []
+        return job[2] if job[0] in ("signal", "done", "child-done") else []
 
     def from_source(self, source, job):
         return {"nothing": [], "input": self.input, "brought": self.brought(job), "kept": self.kept}[source]
 
     def step(self, job):
         """The commands that a job is given."""
-        for row in self.table.rows if self.table else []:
-            if self.fits(row, job):
-                given = [self.command(command, job) for command in row.commands]
-                self.follow(row, job)
-                return given
-        return []
+        job = job_in_rows(job)
+        place = self.table.place_for(self.at, job, self.name) if self.table else None
+        return [] if place is None else self.follow(place, job)
 
-    def follow(self, row, job):
-        for mark in row.marks:
-            if mark[0] == "keep":
-                self.kept = self.brought(job)
-            elif mark[0] == "zero":
-                self.counts[mark[1]] = 0
-            else:
-                self.counts[mark[1]] = min(self.counts[mark[1]] + 1, self.table.bound(mark[1]))
-        self.state, self.closed = row.after if row.after != "same" else self.state, row.closes()
+    def follow(self, place, job):
+        """The commands of the row at that place, which the job takes."""
+        row = self.table.rows[place]
+        given = [self.command(command, job) for command in row.commands]
+        if ("keep",) in row.marks:
+            self.kept = self.brought(job)
+        self.at = self.table.after(self.at, row)
+        return given
 
     def command(self, command, job):
         kind = command[0]

@@ -34,7 +34,6 @@ class TableProgram:
     def copy(self):
         other = copy.copy(self)
         other.run = copy.copy(self.run)
-        other.run.counts = list(self.run.counts)
         return other
 
     def step(self, job):
@@ -44,7 +43,7 @@ class TableProgram:
     def query(self, kind, values):
         if kind != "state":
             return False, f"unknown query type {kind}; known: state"
-        return True, self.run.state if self.is_begun else ""
+        return True, self.run.at.state if self.is_begun else ""
 
 
 class RunMaker(Maker):

@@ -7,21 +7,20 @@ them right and some with a mistake, random jobs, and the histories that come of 
 Each history has to replay with `ok`, and `explain` has to show the very commands that the interpreter gave: ids, types,
 seconds, and the reason why a table is refused. The last line begins with `N tried, M wrong`, and the status is 1 where one is wrong."""
 
-import argparse
 import base64
 import json
 import random
 import re
+import shutil
 import subprocess
 import sys
 import tempfile
+from functools import partial
+from itertools import count, islice
 from pathlib import Path
 
-TOP = Path(__file__).resolve().parent.parent
-sys.dont_write_bytecode = True
-sys.path.insert(0, str(TOP / "tests"))
-
-from table_rows import Run  # noqa: E402
+from rows import PROCESSORS, PROGRAM, need, try_rows, words_of
+from table_rows import Run
 
 STATES = ("one", "two", "three", "four", "five")
 IDS, TYPES, SIGNALS = ("a", "b", "c", "@"), ("Charge", "Mail"), ("go", "stop")
@@ -124,9 +123,9 @@ class Traced(Run):
         self.taken = []
         super().__init__(kind, payloads)
 
-    def follow(self, row, job):
-        self.taken.append((self.table.rows.index(row), self.state))
-        super().follow(row, job)
+    def follow(self, place, job):
+        self.taken.append((place, self.at.state))
+        return super().follow(place, job)
 
     def way(self):
         """What a page marks of its table: the rows that it took, for how many jobs, how each state is named, and whether it is closed."""
@@ -135,9 +134,9 @@ class Traced(Run):
         passed, names = {state for _, state in self.taken}, []
         for place, row in enumerate(self.table.rows):
             first = all(other.state != row.state for other in self.table.rows[:place])
-            last = not self.closed and row.state == self.state
+            last = not self.at.closed and row.state == self.at.state
             names.append("name last" if last else "name passed" if row.state in passed else "name") if first else names.append("name again")
-        return sorted({place for place, _ in self.taken}), len(self.taken), names, self.closed
+        return sorted({place for place, _ in self.taken}), len(self.taken), names, self.at.closed
 
 
 class History:
@@ -306,31 +305,32 @@ def way_shown(program, path):
     return [place for place, row in enumerate(rows) if row[0]], int(jobs[1]), [row[1] for row in rows], 'class="end last"' in section
 
 
+def fault_of(program, folder, name, history):
+    """What is wrong with what the program says of a history, which is kept then."""
+    path = Path(folder, name)
+    path.write_text(json.dumps({"events": history.events}))
+    verdict, shown = explained(program, path)
+    way = way_shown(program, path)
+    if ": ok, " in verdict and shown == history.shown and way == history.way:
+        return ""
+    shutil.copy(path, name)
+    return f"{verdict}\n  shown  {shown}, {way}\n  wanted {history.shown}, {history.way}"
+
+
 def main():
-    parser = argparse.ArgumentParser(description=__doc__.splitlines()[0])
-    parser.add_argument("--runs", type=int, default=200)
-    parser.add_argument("--seed", type=int, default=1)
-    parser.add_argument("--program", nargs="+", default=[str(TOP / "crates/wfhost/out/wfhost")])
-    options = parser.parse_args()
-    dice, wrong, refused, tried = random.Random(options.seed), 0, 0, 0
+    parser = words_of(__doc__)
+    parser.add_argument("--runs", type=int, default=200, help="how many histories")
+    parser.add_argument("--seed", type=int, default=1, help="what the random choices begin with")
+    parser.add_argument("--program", nargs="+", default=[str(PROGRAM)])
+    asked = parser.parse_args()
+    need(parser, asked.program[0])
+    dice = random.Random(asked.seed)
+    histories = [*islice(filter(None, (made(dice) for _ in count())), asked.runs)]
+    refused = sum(history.run.fault is not None for history in histories)
     with tempfile.TemporaryDirectory() as folder:
-        while tried < options.runs:
-            history = made(dice)
-            if history is None:
-                continue
-            tried += 1
-            refused += history.run.fault is not None
-            path = Path(folder) / f"{tried}.json"
-            path.write_text(json.dumps({"events": history.events}))
-            verdict, shown = explained(options.program, path)
-            way = way_shown(options.program, path)
-            if ": ok, " not in verdict or shown != history.shown or way != history.way:
-                wrong += 1
-                kept = Path(f"wrong-{options.seed}-{tried}.json")
-                kept.write_text(path.read_text())
-                print(f"{kept}: {verdict}\n  shown  {shown}, {way}\n  wanted {history.shown}, {history.way}")
-    print(f"{tried} tried, {wrong} wrong ({refused} of them no table)")
-    return 1 if wrong else 0
+        names = (f"wrong-{asked.seed}-{number}.json" for number in count(1))
+        rows = [(name, partial(fault_of, asked.program, folder, name, history)) for name, history in zip(names, histories)]
+        return try_rows(rows, asked, PROCESSORS, f" ({refused} of them no table)")
 
 
 if __name__ == "__main__":

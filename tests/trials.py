@@ -19,7 +19,8 @@ from itertools import cycle
 from pathlib import Path
 
 import support
-from support import ACTIVITY, ANSWER, ORDERS, PAGE, PROGRAM, RESULT, TASK, Client, Tries, Wrong, ended, has, same, soon
+from rows import ORDERS, PROGRAM, Tries, Wrong, has, same, soon
+from support import ACTIVITY, ANSWER, PAGE, RESULT, TASK, Client, ended
 
 os.environ.setdefault("GRPC_VERBOSITY", "NONE")
 support.take_packages("the bridge needs")
@@ -28,7 +29,7 @@ support.use_trimmed()
 from forwarder import Forwarder  # noqa: E402
 from grpc_front import Calls  # noqa: E402
 from peers import CANCELLED, DEADLINE, EXHAUSTED, INVALID, NOT_FOUND, UNAVAILABLE, Settings  # noqa: E402
-from plans import by_key, changed, empty, hangs, in_turn, lost, refused, slow  # noqa: E402
+from plans import by_key, changed, empty, hangs, in_turn, late, lost, refused, slow  # noqa: E402
 from processes import children_of, is_there  # noqa: E402
 from server import Server  # noqa: E402
 from troubles import Troubles  # noqa: E402
@@ -576,6 +577,27 @@ def cache_of_one_run():
         same("histories", room.count(PAGE) > 0, True)
 
 
+def run_cached_late():
+    """The task of an update is discarded before the response comes to the answer before: the run is cached once that comes, and
+    the next task goes on from it."""
+    with Room() as room:
+        room.workflows.milliseconds = 60_000
+        counts, is_read = room.server.findings.counts, threading.Event()
+        room.plan.add(ANSWER, late(is_read), times=1)
+        worker, run = Worker(room, "--workers", "4"), room.start("Nap")
+        soon("the first answer is taken", lambda: run.timers)
+        with room.calls.lock:
+            run.schedule_task(is_speculative=True)
+        soon("the task of the update is discarded", lambda: counts["dropped"] == 1)
+        is_read.set()
+        soon("the response is read", lambda: room.server.peers[0].polls == 4)
+        room.signal(run)
+        soon("the next answer is taken", lambda: counts["taken"] == 3)
+        same("histories", room.count(PAGE), 1)
+        same("lines", lines_of(worker.stop()), [])
+        room.end(run)
+
+
 # Queries.
 
 
@@ -686,11 +708,17 @@ def shutdown_with_answers():
 
 def shutdowns_with_answers_that_fail():
     """SIGTERM while answers hang, or get 14 or 8: it ends within some ten seconds, with status 1, and names the runs."""
-    faults = {"hang": hangs, "away": refused(UNAVAILABLE), "busy": refused(EXHAUSTED)}
+    faults, on_their_way = {"hang": hangs, "away": refused(UNAVAILABLE), "busy": refused(EXHAUSTED)}, set()
     with Room(queues=tuple(faults)) as room:
-        room.plan.add(ANSWER, lambda call: faults[room.run_of(call).queue](call))
+
+        def fault(call):
+            queue = room.run_of(call).queue
+            on_their_way.add(queue)
+            return faults[queue](call)
+
+        room.plan.add(ANSWER, fault)
         pairs = [(Worker(room, "--workers", "4", queue=queue), room.start("Nap", queue=queue)) for queue in faults]
-        soon("the answers are on their way", lambda: room.count(ANSWER) >= 3)
+        soon("the answers are on their way", lambda: len(on_their_way) == 3)
         for worker, _ in pairs:
             worker.child.terminate()
         for worker, run in pairs:
@@ -771,8 +799,10 @@ TRIES = [
     pages_refused_for_now,
     pages_refused,
     cache_of_one_run,
+    run_cached_late,
     queries_of_runs,
     query_beside_a_task,
+    query_of_a_busy_run,
     shutdowns_with_polls,
     shutdown_with_answers,
     shutdown_at_work,
@@ -791,7 +821,7 @@ LONG = [
     shutdown_with_pages_that_hang,
     shutdown_with_a_farewell_that_hangs,
 ]
-LEFT_OUT = {query_of_a_busy_run: "the host does not answer the queries of a task with the task yet"}
+LEFT_OUT = {}
 
 
 def main():

@@ -28,26 +28,22 @@ A talk is a file of lines:
                      and @new has no other file
 """
 
-import argparse
 import os
 import re
 import select
-import shutil
 import subprocess
 import sys
 import tempfile
 import time
+from functools import partial
 from pathlib import Path
 
+from rows import PROGRAM, Wrong, need, pick, try_rows, words_of
+
 HERE = Path(__file__).resolve().parent
-PROGRAM = HERE.parent / "crates/wfhost/out/wfhost"
 OPTIONS = ["--task-queue", "q", "--namespace", "default", "--identity", "me"]
 TIMES = ["--activity-timeout", "60", "--activity-attempts", "1", "--sticky-timeout", "10"]
 LIMIT_SECONDS = 20
-
-
-class Wrong(Exception):
-    """What is not as it should be."""
 
 
 class Worker:
@@ -241,27 +237,20 @@ class Talk:
             raise Wrong(f"the files are\n{left}\nnot\n{wanted}")
 
 
+def play(program, path):
+    """Plays the talk of a file."""
+    Talk(program, path.read_text().splitlines()).play()
+
+
 def main():
-    found = {path.stem: path for path in sorted((HERE / "work").glob("*.txt"))}
-    parser = argparse.ArgumentParser(description=__doc__, formatter_class=argparse.RawDescriptionHelpFormatter)
+    parser = words_of(__doc__)
     parser.add_argument("--program", metavar="WORDS", default=str(PROGRAM), help="the program to try, with its first words")
     parser.add_argument("talks", metavar="TALK", nargs="*", help="names of talks, all where there is none")
-    options = parser.parse_args()
-    if unknown := [name for name in options.talks if name not in found]:
-        parser.error(f"no such talk: {unknown[0]}")
-    program = options.program.split()
-    if not shutil.which(program[0]):
-        parser.error(f"{program[0]} is not there: `./wfhost --build` builds it")
-    talks = [found[name] for name in options.talks] or list(found.values())
-    wrong = 0
-    for path in talks:
-        try:
-            Talk(program, path.read_text().splitlines()).play()
-        except Wrong as why:
-            wrong += 1
-            print(f"{path.stem}: {why}", flush=True)
-    print(f"{len(talks)} tried, {wrong} wrong")
-    return 1 if wrong else 0
+    asked = parser.parse_args()
+    program = asked.program.split()
+    need(parser, program[0])
+    talks = {path.stem: partial(play, program, path) for path in sorted((HERE / "work").glob("*.txt"))}
+    return try_rows(pick(parser, talks, asked.talks).items(), asked)
 
 
 if __name__ == "__main__":

@@ -227,6 +227,7 @@ def reports(room):
         (["serve", well], 0, SERVED, UNCOMPARED),
         (["serve", live], 0, SERVED.replace("2", "1"), ""),
         (["replay", examples], 0, REPLAYED_EXAMPLES, ""),
+        (["replay", str(TOP / "examples/runs")], 0, "canceled_order.json: ok, 4 tasks\n1 files, 1 ok\n", ""),
         (["serve", examples, "--workers", "4"], 0, SERVED_EXAMPLES, UNCOMPARED),
         (["serve", examples, "--cache-events", "3"], 0, SERVED_EXAMPLES, UNCOMPARED),
         (["replay", hostile], 1, REPLAYED_HOSTILE, Like(HOSTILE_PLACES)),

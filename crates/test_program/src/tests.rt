@@ -5,3 +5,4 @@ mod explaining;
 mod querying;
 mod reports;
 mod serve;
+mod texts;

@@ -1,5 +1,6 @@
 //! Activity handlers that send heartbeats, and a handler with its heartbeat.
-ghost use Rattle.std.specs.Prelude.{IfOk};
+ghost use Rattle.std.specs.Prelude.{◌≡◌, IfOk};
+ghost use Rattle.wh_activities.specs.WithHeartbeat.{completes};
 
 use wh_events::OutOfMemory;
 use wh_heartbeat::Heartbeat;
@@ -40,8 +41,16 @@ pub trait HeartbeatHandler {
         ensures may { SameMay (may self.old H.brings H.tells) (may self.new H.brings H.tells) };
 }
 
+/// Returns whether the outcome of a run completes its activity.
+fn completes(outcome: &Result<ActivityAnswer, OutOfMemory>) -> bool
+    ensures { result ≡ completes outcome.now }
+{
+    matches!(outcome, Ok(ActivityAnswer::Completed(_)))
+}
+
 /// A handler with its heartbeat, as an `ActivityHandler` for a worker: the handler runs once for
-/// each task, and its answer is the task's.
+/// each task, and its answer is the task's. Unless it completes the activity, the details that its
+/// heartbeat holds are sent before the answer, so that a later attempt gets the last ones.
 #[derive(Drop)]
 pub struct WithHeartbeat<B, H> {
     /// Runs the activities.
@@ -51,11 +60,16 @@ pub struct WithHeartbeat<B, H> {
 }
 
 impl<B: HeartbeatHandler, H: Heartbeat> ActivityHandler for WithHeartbeat<B, H> {
+    ghost use Rattle.std.specs.Prelude.{false};
+
     ghost may = { λ with_heartbeat. B.may with_heartbeat.handler H.brings H.tells };
 
-    ghost runs = { λ old task result new. B.runs old.handler H.brings H.tells task result new.handler };
+    ghost runs = { λ old task result new. B.runs old.handler H.brings H.tells task result new.handler
+        × (completes result ≡ false → H.is_flushed new.heartbeat) };
 
     fn run(&mut self, task: &ActivityTask) -> Result<ActivityAnswer, OutOfMemory> {
-        self.handler.run(task, &mut self.heartbeat)
+        let outcome = self.handler.run(task, &mut self.heartbeat);
+        self.heartbeat.finish(completes(&outcome));
+        outcome
     }
 }

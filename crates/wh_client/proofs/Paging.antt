@@ -2,14 +2,16 @@
 use Rattle.std.proofs.Common.{◌≡◌, ◌≢◌, ◌∙◌, ℕ, List, [], ◌∷◌, ◌++◌, append_assoc, refl, sym, ap, subst, map, arith}
 use Rattle.std.proofs.lemmas.Bool.Decides.{nat_tests}
 use Rattle.std.proofs.lemmas.List.{append-nil}
-use Rattle.std.specs.Prelude.{◌==◌, codes, length, true, Some}
+use Rattle.std.specs.Prelude.{◌==◌, codes, length, true, Some, Result, Ok, Err, IfErr, IsErrAnd}
 use Rattle.serde_json.specs.Data.{Data}
 use Rattle.wh_events.specs.declared.key.RunKey.{RunKey}
 use Rattle.wh_commands.specs.declared.names.WorkerNames.{WorkerNames}
 use Rattle.wh_requests.specs.Requests.{history}
 use Rattle.wh_responses.specs.Responses.{Page, page_in}
-use Rattle.wh_client.specs.Calls.{Gives}
-use Rattle.wh_client.specs.Pages.{IsPaged, Leads, ReadsOn, all_members}
+use Rattle.wh_client.specs.Calls.{Fails, Gives}
+use Rattle.wh_client.specs.Pages.{EndsPages, IsPageFault, IsPaged, Leads, ReadsNotOn, ReadsOn, all_members}
+use Rattle.wh_client.specs.declared.asking.AskFault.{AskFault}
+use Rattle.wh_client.specs.declared.asking.AskFault.TheVariants as asked
 
 -- a page that was read from the result of its request
 pub paged_by : (gives : Gives) (names : WorkerNames) (run : RunKey) (token : List ℕ) (params result : Data) (page : Page)
@@ -59,3 +61,31 @@ map-appended f (x ∷ xs) ys = ap (λ l. f x ∷ l) (map-appended f xs ys)
 pub none_left : {A : Type 0} (xs : List A) → (length xs == 0) ≡ true → xs ≡ []
 none_left [] e = refl
 none_left (x ∷ xs) e = absurd (grind (arith, nat_tests))
+
+module _ (gives : Gives) (fails : Fails) (names : WorkerNames) (run : RunKey) where
+  -- a page that could not be fetched ends those before it
+  ends_at : (pages : List Page) (reached : List ℕ) (fault : AskFault) → IsPageFault gives fails names run reached fault
+      → EndsPages gives fails names run pages reached fault
+  ends_at pages reached asked.Closed is = is
+  ends_at pages reached asked.Output is = is
+  ends_at pages reached (asked.Refused status code message) is = is
+  ends_at pages reached asked.Unreadable is = is
+  ends_at pages reached asked.TooManyPages is = absurd is
+  ends_at pages reached (asked.History fault) is = absurd is
+  ends_at pages reached asked.OutOfMemory is = tt
+
+  module _ (token : List ℕ) where
+    -- the pages lead to one that could not be fetched
+    pub unread_after : {A : Type 0} (pages : List Page) (reached : List ℕ) (fault : AskFault) (result : Result A AskFault)
+        → Leads gives names run token pages reached → IsPageFault gives fails names run reached fault
+        → IsErrAnd result (λ why. why ≡ fault) → IfErr result (ReadsNotOn gives fails names run token)
+    unread_after pages reached fault (Ok all) lead is why = tt
+    unread_after pages reached fault (Err found) lead is why =
+        record { before = pages; reached = reached; lead = lead; ends = subst (EndsPages gives fails names run pages reached) (sym why) (ends_at pages reached fault is) }
+
+    -- there may be no memory before the first page
+    pub unread_without_memory : {A : Type 0} (result : Result A AskFault) → IsErrAnd result (λ why. why ≡ asked.OutOfMemory)
+        → IfErr result (ReadsNotOn gives fails names run token)
+    unread_without_memory (Ok all) why = tt
+    unread_without_memory (Err found) why =
+        record { before = []; reached = token; lead = refl; ends = subst (EndsPages gives fails names run [] token) (sym why) tt }

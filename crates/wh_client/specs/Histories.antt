@@ -6,8 +6,8 @@ use Rattle.wh_events.specs.declared.key.RunKey.{RunKey}
 use Rattle.wh_json.specs.Events.{members_from}
 use Rattle.wh_json.specs.Outcome.{all_of}
 use Rattle.wh_commands.specs.declared.names.WorkerNames.{WorkerNames}
-use Rattle.wh_client.specs.Calls.{Gives}
-use Rattle.wh_client.specs.Pages.{BeginsWith, ReadsOn}
+use Rattle.wh_client.specs.Calls.{Fails, Gives}
+use Rattle.wh_client.specs.Pages.{BeginsNot, BeginsWith, ReadsOn}
 use Rattle.wh_client.specs.declared.asking.AskFault.{AskFault}
 use Rattle.wh_client.specs.declared.asking.AskFault.TheVariants as asked
 use Rattle.wh_commands.specs.CarryingOver.{Carried, carried_in}
@@ -41,3 +41,24 @@ pub record HandsOn (gives : Gives) (names : WorkerNames) (run : RunKey) (carried
   pub page : Page
   pub begins : BeginsWith gives names run page
   pub read : carried_in page.members ≡ Some carried
+
+-- why the members of a page do not say what a run carries over
+abbrev pub CarriesNothing : List Data → AskFault → Type 0
+CarriesNothing members asked.Closed = ⊥
+CarriesNothing members asked.Output = ⊥
+CarriesNothing members (asked.Refused status code message) = ⊥
+CarriesNothing members asked.Unreadable = carried_in members ≡ None
+CarriesNothing members asked.TooManyPages = ⊥
+CarriesNothing members (asked.History fault) = ⊥
+CarriesNothing members asked.OutOfMemory = ⊤
+
+-- the first event of a run's history does not say what it carries over
+pub record HandsNothingOn (gives : Gives) (names : WorkerNames) (run : RunKey) : Type 0 where
+  pub page : Page
+  pub begins : BeginsWith gives names run page
+  pub read : carried_in page.members ≡ None
+
+-- why it is not known what a run carries over: its first event could not be fetched, or does not say it
+abbrev pub CarriesUnknown : Gives → Fails → WorkerNames → RunKey → AskFault → Type 0
+CarriesUnknown gives fails names run fault =
+    BeginsNot gives fails names run fault ⊎ ((fault ≡ asked.Unreadable) × HandsNothingOn gives names run)

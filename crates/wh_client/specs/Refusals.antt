@@ -1,5 +1,6 @@
 -- What calls that failed mean.
 use Rattle.std.specs.Prelude.{◌≡◌, ℕ, Result, Ok, Err, string_bytes, ⊤}
+use Rattle.wh_client.specs.Calls.{NoResult, no_response, refused}
 use Rattle.wh_client.specs.Codes.{HasCode}
 use Rattle.wh_client.specs.declared.asking.AskFault.{AskFault}
 use Rattle.wh_client.specs.declared.asking.AskFault.TheVariants as asked
@@ -40,6 +41,16 @@ HasItsStatus asked.TooManyPages = ⊤
 HasItsStatus (asked.History fault) = ⊤
 HasItsStatus asked.OutOfMemory = ⊤
 
+-- the call came to this fault for such a reason; there may be no memory at any time
+abbrev pub IsFaultBy : (NoResult → Type 0) → AskFault → Type 0
+IsFaultBy p asked.Closed = p (no_response call.Closed)
+IsFaultBy p asked.Output = p (no_response call.Output)
+IsFaultBy p (asked.Refused status code message) = p (refused code (string_bytes message))
+IsFaultBy p asked.Unreadable = ⊥
+IsFaultBy p asked.TooManyPages = ⊥
+IsFaultBy p (asked.History fault) = ⊥
+IsFaultBy p asked.OutOfMemory = ⊤
+
 -- ---- What it means
 
 -- the call was refused because its request is larger than the server accepts
@@ -62,3 +73,13 @@ HasNoMeaning asked.Unreadable = ⊤
 HasNoMeaning asked.TooManyPages = ⊤
 HasNoMeaning (asked.History fault) = ⊤
 HasNoMeaning asked.OutOfMemory = ⊤
+
+-- the fault of a page says nothing about later polls nor about a task
+abbrev pub of_page : AskFault → AskFault
+of_page asked.Closed = asked.Closed
+of_page asked.Output = asked.Output
+of_page (asked.Refused status code message) = asked.Refused Other code message
+of_page asked.Unreadable = asked.Unreadable
+of_page asked.TooManyPages = asked.TooManyPages
+of_page (asked.History fault) = asked.History fault
+of_page asked.OutOfMemory = asked.OutOfMemory

@@ -2,7 +2,9 @@
 use Rattle.std.specs.Prelude.{◌≡◌, ◌≢◌, ℕ, List, Bool, false, Option, Some, None, Result, Ok, Err, codes, ⊤}
 use Rattle.serde_json.specs.Data.{Data}
 use Rattle.serde_json.specs.View.{view}
-use Rattle.wh_client.specs.Calls.{Gives}
+use Rattle.wh_client.specs.Calls.{Fails, Gives}
+use Rattle.wh_client.specs.Refusals.{IsFaultBy}
+use Rattle.wh_client.specs.declared.asking.AskFault.{AskFault}
 use Rattle.wh_client.specs.declared.requests.Request.{Request}
 use Rattle.wh_commands.specs.declared.fault.RequestFault.{RequestFault}
 use Rattle.wh_commands.specs.declared.fault.RequestFault.TheVariants.{OutOfMemory}
@@ -39,3 +41,8 @@ pub record IsTaken (gives : Gives) (method : List ℕ) (params : Data) : Type 0 
 abbrev pub GivesUpQueue : Gives → WorkerNames → (sticky : Option ℕ) → Type 0
 GivesUpQueue gives names None = ⊤
 GivesUpQueue gives names (Some timeout) = IsTaken gives (codes "ShutdownWorker") (shutdown names)
+
+-- why the sticky queue is not given up, if there is one
+abbrev pub KeepsQueue : Fails → WorkerNames → (sticky : Option ℕ) → AskFault → Type 0
+KeepsQueue fails names None fault = ⊥
+KeepsQueue fails names (Some timeout) fault = IsFaultBy (fails (codes "ShutdownWorker") (shutdown names)) fault

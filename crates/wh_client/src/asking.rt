@@ -3,7 +3,7 @@
 ghost use Rattle.std.specs.Prelude.{◌≡◌, ◌↔◌, true, IfErr, IfOk, Ok};
 ghost use Rattle.serde_json.specs.View.{view};
 ghost use Rattle.wh_rpc.specs.declared.response.Outcome.TheVariants.{Given};
-ghost use Rattle.wh_client.specs.Refusals.{HasItsStatus, IsFaultOf, IsTooLarge, unanswered};
+ghost use Rattle.wh_client.specs.Refusals.{HasItsStatus, IsFaultBy, IsFaultOf, IsTooLarge, unanswered};
 ghost use Rattle.wh_client.specs.declared.asking.AskFault.TheVariants.{OutOfMemory as NoMemory};
 
 use crate::codes::{Status, status_of};
@@ -110,6 +110,7 @@ pub(crate) fn ask<L: Connection>(
     params: Value,
 ) -> Result<(u64, Value), AskFault>
     ensures given { IfOk result (λ given. L.gives method.now (view params) (view given.1)) }
+    ensures failed { IfErr result (IsFaultBy (L.fails method.now (view params))) }
     ensures refused { IfErr result HasItsStatus }
 {
     result_of(connection.call(method, params))
@@ -123,6 +124,7 @@ pub(crate) fn ask_poll<L: Connection>(
     params: Value,
 ) -> Result<(u64, Value), AskFault>
     ensures given { IfOk result (λ given. L.gives method.now (view params) (view given.1)) }
+    ensures failed { IfErr result (IsFaultBy (L.fails method.now (view params))) }
     ensures refused { IfErr result HasItsStatus }
 {
     result_of(connection.poll(method, params))

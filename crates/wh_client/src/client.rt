@@ -1,12 +1,15 @@
 //! The client of a server: its polls, and the histories that it fetches.
 
-ghost use Rattle.std.specs.Prelude.{◌≡◌, IfErr, IfOk, Some, map};
+ghost use Rattle.std.specs.Prelude.{◌≡◌, [], IfErr, IfOk, Some, codes, map};
 ghost use Rattle.serde_json.specs.View.{view};
 ghost use Rattle.wh_responses.specs.Responses.{poll_seen};
-ghost use Rattle.wh_client.specs.Histories.{CanNotBeRead, HandsOn, HasAllMembers, IsWhole, ReadsEvents};
+ghost use Rattle.wh_client.specs.Histories.{CanNotBeRead, CarriesNothing, CarriesUnknown, HandsOn};
+ghost use Rattle.wh_client.specs.Histories.{HasAllMembers, IsWhole, ReadsEvents};
+ghost use Rattle.wh_client.specs.Pages.{ReadsNotOn};
+ghost use Rattle.wh_requests.specs.Requests.{poll_activity, poll_workflow};
 ghost use Rattle.wh_commands.specs.CarryingOver.{carried_in, carried_seen};
 ghost use Rattle.wh_client.specs.Polls.{IsActivityPoll, IsWorkflowPoll};
-ghost use Rattle.wh_client.specs.Refusals.{HasItsStatus, HasNoMeaning};
+ghost use Rattle.wh_client.specs.Refusals.{HasItsStatus, HasNoMeaning, IsFaultBy, of_page};
 
 use crate::asking::{AskFault, ask_poll};
 use crate::codes::Status;
@@ -36,7 +39,8 @@ pub struct Client<'a, L> {
 /// Returns the fault of a poll whose history page could not be fetched. A refused page says nothing
 /// about later polls.
 fn of_page(fault: AskFault) -> AskFault
-    ensures { HasNoMeaning result }
+    ensures meaning { HasNoMeaning result }
+    ensures is { result ≡ of_page fault }
 {
     match fault {
         AskFault::Refused { code, message, .. } => AskFault::Refused {
@@ -52,6 +56,7 @@ fn of_page(fault: AskFault) -> AskFault
 fn carried_in_page(page: &HistoryPage) -> Result<CarriedOver, AskFault>
     ensures carried { IfOk result (λ carried.
         carried_in (map view page.now.members.items) ≡ Some (carried_seen carried)) }
+    ensures failed { IfErr result (CarriesNothing (map view page.now.members.items)) }
     ensures refused { IfErr result HasNoMeaning }
 {
     match carried_over(page.members.as_slice())? {
@@ -85,6 +90,8 @@ impl<L: Connection> Client<'_, L> {
     pub fn ask_workflow(&self, sticky: bool) -> Result<(u64, WorkflowPoll), AskFault>
         ensures polled { IfOk result (λ polled.
             IsWorkflowPoll L.gives self.now.options.now.names sticky (poll_seen polled.1)) }
+        ensures failed { IfErr result (IsFaultBy (L.fails (codes "PollWorkflowTaskQueue")
+            (poll_workflow self.now.options.now.names sticky))) }
         ensures refused { IfErr result HasItsStatus }
     {
         let params = poll_workflow(self.allocator(), &self.options.names, sticky)?;
@@ -98,6 +105,8 @@ impl<L: Connection> Client<'_, L> {
     pub fn ask_activity(&self) -> Result<(u64, ActivityPoll), AskFault>
         ensures polled { IfOk result (λ polled.
             IsActivityPoll L.gives self.now.options.now.names polled.1) }
+        ensures failed { IfErr result (IsFaultBy (L.fails (codes "PollActivityTaskQueue")
+            (poll_activity self.now.options.now.names))) }
         ensures refused { IfErr result HasItsStatus }
     {
         let params = poll_activity(self.allocator(), &self.options.names)?;
@@ -117,6 +126,8 @@ impl<L: Connection> Client<'_, L> {
     ) -> Result<Vec<Value>, AskFault>
         ensures all { IfOk result (λ all. HasAllMembers L.gives self.now.options.now.names run.now next_page
             (map view members.items) (map view all.items)) }
+        ensures failed { IfErr result
+            (ReadsNotOn L.gives L.fails self.now.options.now.names run.now next_page) }
         ensures refused { IfErr result HasNoMeaning }
     {
         let mut all = members;
@@ -143,6 +154,8 @@ impl<L: Connection> Client<'_, L> {
     pub fn fetch_carried(&self, run: &RunKey) -> Result<CarriedOver, AskFault>
         ensures carried { IfOk result (λ carried.
             HandsOn L.gives self.now.options.now.names run.now (carried_seen carried)) }
+        ensures failed { IfErr result
+            (CarriesUnknown L.gives L.fails self.now.options.now.names run.now) }
         ensures refused { IfErr result HasNoMeaning }
     {
         match ask_first_page(self.connection, &self.options.names, run) {
@@ -154,8 +167,10 @@ impl<L: Connection> Client<'_, L> {
     /// Fetches the history of a run from its first event, as JSON values. The error says why it
     /// could not be fetched.
     pub fn fetch_history(&self, run: &RunKey) -> Result<Vec<Value>, AskFault>
-        ensures { IfOk result (λ members.
+        ensures whole { IfOk result (λ members.
             IsWhole L.gives self.now.options.now.names run.now (map view members.items)) }
+        ensures failed { IfErr result
+            (ReadsNotOn L.gives L.fails self.now.options.now.names run.now []) }
     {
         let first = Text::new(String::new(self.allocator()));
         let mut members = Vec::new(self.allocator());

@@ -11,18 +11,22 @@ use wh_rpc::{CallFault, Outcome};
 /// The connection of a live source: it makes calls to the server and reports. Many workers share
 /// it. Its calls wait for the server.
 ///
-/// An implementation says what results its server may return for a request; with a bridge in
-/// between it can say nothing.
+/// An implementation says what results its server may return for a request, and why there may be
+/// none; with a bridge in between it can say nothing.
 pub trait Connection {
     ghost use Rattle.std.specs.Prelude.{◌≡◌, ◌++◌, ◌∷◌, [], ℕ, List, IfOk, true};
     ghost use Rattle.serde_json.specs.Data.{Data};
     ghost use Rattle.serde_json.specs.View.{view};
-    ghost use Rattle.wh_client.specs.Calls.{OnGiven};
+    ghost use Rattle.wh_client.specs.Calls.{NoResult, OnFailed, OnGiven};
     ghost use Rattle.wh_client.specs.Heartbeats.{WasCanceled};
-    ghost use Rattle.wh_client.specs.Polls.{GivesQuery};
+    ghost use Rattle.wh_client.specs.Polls.{GivesQuery, IsPollingOver};
 
     /// Which results a request may get, by its method and its parameters.
     ghost gives: { List ℕ → Data → Data → Type 0 };
+
+    /// Why a request may get no result, by its method and its parameters: with which code and
+    /// message it may be refused, and with which fault it may get no response.
+    ghost fails: { List ℕ → Data → NoResult → Type 0 };
 
     /// Returns the allocator that calls use.
     fn allocator(&self) -> Global;
@@ -31,15 +35,18 @@ pub trait Connection {
     /// response will come, `Output` if the request could not be written, `OutOfMemory` if there was
     /// no memory for it.
     fn call(&self, method: &str, params: Value) -> Result<(u64, Outcome), CallFault>
-        ensures { IfOk result (λ response. OnGiven (gives method.now (view params)) response.1) };
+        ensures given { IfOk result (λ response. OnGiven (gives method.now (view params)) response.1) }
+        ensures failed { OnFailed (fails method.now (view params)) result };
 
     /// As `call`, but also `Closed` once the bridge shuts down, or polls are stopped.
     fn poll(&self, method: &str, params: Value) -> Result<(u64, Outcome), CallFault>
-        ensures { IfOk result (λ response. OnGiven (gives method.now (view params)) response.1) };
+        ensures given { IfOk result (λ response. OnGiven (gives method.now (view params)) response.1) }
+        ensures failed { OnFailed (fails method.now (view params)) result };
 
     /// Lets each later poll of the process fail with `Closed`. Polls that are open get their
-    /// responses.
-    fn stop_polls(&self);
+    /// responses. To be called only if a poll has shown that no later one can succeed.
+    fn stop_polls(&self)
+        requires { IsPollingOver fails };
 
     /// Passes a query that a poll returned to what answers queries beside the workers. Returns the
     /// query if nothing does.

@@ -1,8 +1,9 @@
 //! Sends heartbeats of activities, and writes answers for activities that failed or were canceled.
 
-ghost use Rattle.std.specs.Prelude.{◌≡◌, true, IfErr, IfOk};
+ghost use Rattle.std.specs.Prelude.{◌≡◌, true, IfErr, IfOk, codes};
 ghost use Rattle.wh_client.specs.Heartbeats.{IsFailedActivity, IsHeartbeat, WasCanceled};
-ghost use Rattle.wh_client.specs.Refusals.{HasItsStatus};
+ghost use Rattle.wh_client.specs.Refusals.{HasItsStatus, IsFaultBy};
+ghost use Rattle.wh_requests.specs.Heartbeats.{activity_heartbeat};
 
 use crate::asking::{AskFault, ask};
 use crate::client::Client;
@@ -25,6 +26,8 @@ pub fn record_heartbeat<L: Connection>(
     details: &[Payload],
 ) -> Result<bool, AskFault>
     ensures heard { IfOk result (IsHeartbeat L.gives names.now token.now details.now) }
+    ensures failed { IfErr result (IsFaultBy (L.fails (codes "RecordActivityTaskHeartbeat")
+        (activity_heartbeat names.now token.now details.now))) }
     ensures refused { IfErr result HasItsStatus }
 {
     let alloc = connection.allocator();

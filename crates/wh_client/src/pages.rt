@@ -1,9 +1,10 @@
 //! Fetches the pages of a history.
 
-ghost use Rattle.std.specs.Prelude.{◌≡◌, [], IfOk, OnOk, map};
+ghost use Rattle.std.specs.Prelude.{◌≡◌, [], IfErr, IfOk, OnOk, map};
 ghost use Rattle.serde_json.specs.View.{view};
 ghost use Rattle.wh_responses.specs.Responses.{page_seen};
-ghost use Rattle.wh_client.specs.Pages.{BeginsWith, IsPaged, ReadsOn};
+ghost use Rattle.wh_client.specs.Pages.{BeginsNot, BeginsWith, IsPageFault, IsPaged};
+ghost use Rattle.wh_client.specs.Pages.{ReadsNotOn, ReadsOn};
 
 use crate::asking::{AskFault, ask};
 use crate::connection::Connection;
@@ -24,7 +25,8 @@ pub(crate) fn ask_page<L: Connection>(
     run: &RunKey,
     token: &Text,
 ) -> Result<HistoryPage, AskFault>
-    ensures { IfOk result (λ page. IsPaged L.gives names.now run.now token.now (page_seen page)) }
+    ensures page { IfOk result (λ page. IsPaged L.gives names.now run.now token.now (page_seen page)) }
+    ensures failed { IfErr result (IsPageFault L.gives L.fails names.now run.now token.now) }
 {
     let (workflow_id, run_id) = (run.workflow_id.get(), run.run_id.get());
     let params = history(
@@ -49,6 +51,7 @@ pub(crate) fn ask_first_page<L: Connection>(
 ) -> Result<HistoryPage, AskFault>
     ensures begins { IfOk result (λ page. BeginsWith L.gives names.now run.now (page_seen page)) }
     ensures last { IfOk result (λ page. page.members.items ≡ [] → page.next_page ≡ []) }
+    ensures failed { IfErr result (BeginsNot L.gives L.fails names.now run.now) }
 {
     let mut token = Text::new(String::new(connection.allocator()));
     for _page in 0..MOST_PAGES {
@@ -70,8 +73,9 @@ pub(crate) fn append_pages<L: Connection>(
     token: Text,
     members: &mut Vec<Value>,
 ) -> Result<(), AskFault>
-    ensures { OnOk result (ReadsOn L.gives names.now run.now token
+    ensures appended { OnOk result (ReadsOn L.gives names.now run.now token
         (map view members.old.items) (map view members.new.items)) }
+    ensures failed { IfErr result (ReadsNotOn L.gives L.fails names.now run.now token) }
 {
     let mut token = token;
     for _page in 0..MOST_PAGES {

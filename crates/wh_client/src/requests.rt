@@ -1,17 +1,18 @@
 //! Writes and sends the requests that answer tasks.
 
-ghost use Rattle.std.specs.Prelude.{IfErr, IfOk, OnOk, [], codes};
+ghost use Rattle.std.specs.Prelude.{IfErr, IfOk, OnOk, codes};
+ghost use Rattle.serde_json.specs.View.{members_view, view};
 ghost use Rattle.wh_commands.specs.CarryingOver.{carried_seen};
-ghost use Rattle.wh_client.specs.Refusals.{HasItsStatus};
+ghost use Rattle.wh_client.specs.Refusals.{HasItsStatus, IsFaultBy};
 ghost use Rattle.wh_requests.specs.Requests.{activity_completed, no_queries, query_failed};
 ghost use Rattle.wh_requests.specs.Requests.{workflow_completed, workflow_failed};
-ghost use Rattle.wh_client.specs.Requests.{GivesUpQueue, IsAnswered, IsRequest, IsTaken, WritesRequest};
+ghost use Rattle.wh_client.specs.Requests.{GivesUpQueue, IsAnswered, IsRequest, IsTaken, KeepsQueue, WritesRequest};
 
 use crate::asking::{AskFault, ask};
 use crate::client::Client;
 use crate::connection::Connection;
 use serde_json::Value;
-use wh_commands::{CarriedOver, RequestFault};
+use wh_commands::{CarriedOver, Members, RequestFault};
 use wh_events::{Event, OutOfMemory, Payload, Text};
 use wh_requests::{
     FailedCause, NO_QUERIES, activity_completed, query_failed, shutdown, workflow_completed,
@@ -31,18 +32,19 @@ pub struct Request {
 
 impl<L: Connection> Client<'_, L> {
     /// Writes the completion of the workflow task of a token with commands, after the events that
-    /// they were replayed from. What is carried over is only used in a Continue-As-New. Queries
-    /// that came with the task get no result, so they come again on their own. The error is that of
-    /// the first command that can't be written; `OutOfMemory` can replace each of them.
+    /// they were replayed from, and with the results of queries that came with the task. What is
+    /// carried over is only used in a Continue-As-New. The error is that of the first command that
+    /// can't be written; `OutOfMemory` can replace each of them.
     pub fn completed(
         &self,
         token: &Text,
         commands: &[Command],
         events: &[Event],
+        results: Members,
         carried: &CarriedOver,
     ) -> Result<Request, RequestFault>
         ensures { WritesRequest result (codes "RespondWorkflowTaskCompleted") (workflow_completed
-            self.now.options.now.names token.now commands.now events.now []
+            self.now.options.now.names token.now commands.now events.now (members_view results.entries)
             self.now.options.now.sticky self.now.options.now.policies (carried_seen carried.now)) }
     {
         let options = self.options;
@@ -52,7 +54,7 @@ impl<L: Connection> Client<'_, L> {
             token.get(),
             commands,
             events,
-            &[],
+            results,
             options.sticky,
             &options.policies,
             carried,
@@ -103,6 +105,7 @@ impl<L: Connection> Client<'_, L> {
     /// is known: a refusal has the status of its code.
     pub fn send(&self, request: Request) -> Result<bool, AskFault>
         ensures answered { IfOk result (IsAnswered L.gives request) }
+        ensures failed { IfErr result (IsFaultBy (L.fails request.method.now (view request.params))) }
         ensures refused { IfErr result HasItsStatus }
     {
         let Request { method, params } = request;
@@ -117,6 +120,8 @@ impl<L: Connection> Client<'_, L> {
     pub fn refuse_query(&self, token: &Text) -> Result<(), AskFault>
         ensures sent { OnOk result (IsTaken L.gives (codes "RespondQueryTaskCompleted")
             (query_failed self.now.options.now.names token.now no_queries)) }
+        ensures failed { IfErr result (IsFaultBy (L.fails (codes "RespondQueryTaskCompleted")
+            (query_failed self.now.options.now.names token.now no_queries))) }
         ensures refused { IfErr result HasItsStatus }
     {
         let names = &self.options.names;
@@ -133,6 +138,8 @@ impl<L: Connection> Client<'_, L> {
     pub fn give_up_queue(&self) -> Result<(), AskFault>
         ensures given_up { OnOk result
             (GivesUpQueue L.gives self.now.options.now.names self.now.options.now.sticky) }
+        ensures failed { IfErr result
+            (KeepsQueue L.fails self.now.options.now.names self.now.options.now.sticky) }
         ensures refused { IfErr result HasItsStatus }
     {
         let Some(_timeout) = self.options.sticky else {

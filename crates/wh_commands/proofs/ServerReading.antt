@@ -1,5 +1,5 @@
 -- Reading a request by the names of its fields yields what was written.
-use Rattle.std.proofs.Common.{◌≡◌, ◌⊎◌, ◌<◌, ◌==◌, ◌^◌, ℕ, ◌+◌, List, [], ◌∷◌, ◌++◌, get_or, length, codes, decimal, Bool, true, false, cond, nat_lt, Option, Some, None, option_map, unwrap_or, Result, Ok, Err, refl, ap, subst, ◌∙◌, arith, inl, inr}
+use Rattle.std.proofs.Common.{◌≡◌, ◌⊎◌, ◌<◌, ◌==◌, ◌^◌, ℕ, ◌+◌, List, [], ◌∷◌, ◌++◌, get_or, length, codes, decimal, Bool, true, false, cond, nat_lt, Option, Some, None, option_map, Result, Ok, Err, refl, ap, subst, ◌∙◌, arith, inl, inr}
 use Rattle.serde_json.specs.Data.{Data, Members, no_members, number, object, string, unsigned}
 use Rattle.serde_json.specs.Find.{as_bool, as_number, as_str, as_u64, get, get_member}
 use Rattle.std.proofs.lemmas.Fmt.{decimal_is_IsNumeral, first_decimal}
@@ -24,7 +24,7 @@ use Rattle.wh_commands.specs.Objects.{object_of, put_given, value_or}
 use Rattle.wh_commands.specs.Options.{◌>>=◌}
 use Rattle.wh_commands.specs.Policies.{activity_asked, attempts_asked, child_asked, continued_asked, failure_asked, failure_info, float_written, id_reuse_name, non_retryable, parent_close_name, retry_asked, retry_written, seconds_written, texts_given}
 use Rattle.wh_commands.specs.ReadBack.{seconds_of, text_at}
-use Rattle.wh_commands.specs.ServerReads.{Fits, IsPositive, IsActivity, IsChild, IsContinued, IsFailure, IsRetry, HasRetry, HasSeconds, Queue, queue_at, Says, CommandsAreRead}
+use Rattle.wh_commands.specs.ServerReads.{Fits, HasAttempts, IsPositive, IsActivity, IsChild, IsContinued, IsFailure, IsRetry, HasRetry, HasSeconds, Queue, queue_at, Says, CommandsAreRead}
 use Rattle.wh_commands.proofs.Members.{asked_at, given_at, or_none}
 use Rattle.wh_commands.proofs.Reading.{seconds_of-duration}
 
@@ -99,11 +99,10 @@ final_read retryable d is = ap (λ o. o >>= as_bool) is ∙ by retryable
     by false = refl
 
 attempts_read : (attempts : ℕ) (d : Data) → get (codes "maximumAttempts") d ≡ attempts_asked attempts
-    → unwrap_or (get (codes "maximumAttempts") d >>= as_number >>= as_u64) 0 ≡ attempts
-attempts_read attempts d is = ap (λ o. unwrap_or (o >>= as_number >>= as_u64) 0) is ∙ by (attempts == 0) refl
+    → HasAttempts (get (codes "maximumAttempts") d) attempts
+attempts_read attempts d is = rw is (by (attempts == 0) refl)
   where
-    by : (b : Bool) → (attempts == 0) ≡ b
-        → unwrap_or (cond b None (Some (number (unsigned attempts))) >>= as_number >>= as_u64) 0 ≡ attempts
+    by : (b : Bool) → (attempts == 0) ≡ b → HasAttempts (cond b None (Some (number (unsigned attempts)))) attempts
     by true e = grind (arith, e)
     by false e = refl
 

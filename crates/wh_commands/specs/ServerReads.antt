@@ -1,5 +1,5 @@
 -- What a server reads from commands, by the names of their fields.
-use Rattle.std.specs.Prelude.{◌≡◌, ◌⊎◌, ◌<◌, ◌≤◌, ◌^◌, ℕ, List, codes, Option, Some, None, Ok, option_map, unwrap_or, slice_get, true, ⊤, if◌then◌else◌}
+use Rattle.std.specs.Prelude.{◌≡◌, ◌⊎◌, ◌<◌, ◌≤◌, ◌^◌, ℕ, List, codes, Option, Some, None, Ok, option_map, slice_get, true, ⊤, if◌then◌else◌}
 use Rattle.serde_json.specs.Data.{Data}
 use Rattle.serde_json.specs.Find.{as_bool, as_number, as_u64, get}
 use Rattle.wh_events.specs.declared.event.Event.{Event}
@@ -51,9 +51,14 @@ HasSeconds field seconds d = Fits seconds → seconds_at field d ≡ seconds
 abbrev pub asked_queue : WorkerNames → Option (List ℕ) → Queue
 asked_queue names asked = record { name = queue_asked names asked; kind = None; normal_name = None }
 
--- a retry policy; a number of attempts that is missing is 0
+-- this is the number of attempts, written as a number; one that is missing is 0
+abbrev pub HasAttempts : Option Data → ℕ → Type 0
+HasAttempts None attempts = attempts ≡ 0
+HasAttempts (Some d) attempts = (as_number d >>= as_u64) ≡ Some attempts
+
+-- a retry policy
 pub record IsRetry (retry : RetryPolicy) (d : Data) : Type 0 where
-  pub attempts : unwrap_or (get (codes "maximumAttempts") d >>= as_number >>= as_u64) 0 ≡ retry.maximum_attempts
+  pub attempts : HasAttempts (get (codes "maximumAttempts") d) retry.maximum_attempts
   pub initial : HasSeconds (codes "initialInterval") retry.initial_interval d
   pub maximum : HasSeconds (codes "maximumInterval") retry.maximum_interval d
   pub coefficient : get (codes "backoffCoefficient") d ≡ option_map float_written retry.backoff_coefficient

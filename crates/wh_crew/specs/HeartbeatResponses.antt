@@ -21,3 +21,8 @@ means (Err _) = Ok Unheard
 abbrev pub Means : Result Bool AskFault → Result HeartbeatResponse OutOfMemory → Type 0
 Means heard (Ok response) = means heard ≡ Ok response
 Means heard (Err refused) = means heard ≡ Err asked.OutOfMemory
+
+-- what the cell notes of a heartbeat with this response
+abbrev pub noted : Result HeartbeatResponse OutOfMemory → HeartbeatResponse
+noted (Ok response) = response
+noted (Err refused) = Unheard

@@ -2,3 +2,4 @@ pub mod Crews
 pub mod Counts
 pub mod Serving
 pub mod HeartbeatResponses
+pub mod TaskQueries

@@ -37,6 +37,8 @@ fn seconds<R: Clock>(rt: &R) -> u64 {
 impl<R: Wait + Clock + Eprint, C: Caller> Connection for BridgeConnection<'_, R, C> {
     ghost gives = { λ method params value. Unit {0} };
 
+    ghost fails = { λ method params why. Unit {0} };
+
     fn allocator(&self) -> Global {
         self.calls.allocator()
     }

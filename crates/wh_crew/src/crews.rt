@@ -9,7 +9,7 @@ use std::sync::Arc;
 use wh_client::{Connection, LiveOptions, Role};
 use wh_events::OutOfMemory;
 use wh_heartbeat::ActivityCell;
-use wh_live::{LiveSource, Tally};
+use wh_live::{LiveSource, QueryHandler, Tally};
 use wh_poll::{WorkerEnd, WorkerSetup};
 
 /// Returns how many of the workflow workers poll the queue that all workers poll: one in five and
@@ -51,14 +51,16 @@ fn cell_at(cells: &[Arc<ActivityCell>], place: usize) -> Option<&ActivityCell> {
 
 /// Returns a setup for each worker, with the role and the cell of its place and 2^64 - 1 turns.
 /// `OutOfMemory` if there was no memory.
-pub(crate) fn setups_of<'a, L: Connection, A: Drop, O: Drop>(
+pub(crate) fn setups_of<'a, L: Connection, Q: QueryHandler, A: Drop, O: Drop>(
     alloc: Global,
     connection: &'a L,
+    query_handler: &'a Q,
     options: &'a LiveOptions,
     workers: usize,
     crew: Vec<(A, O)>,
     cells: &'a [Arc<ActivityCell>],
-) -> Result<Vec<WorkerSetup<LiveSource<'a, L>, A, O>>, OutOfMemory>
+) -> Result<Vec<WorkerSetup<LiveSource<'a, L, Q>, A, O>>, OutOfMemory>
+    requires { Q.ready query_handler.now }
     ensures count { IfOk result (λ setups. vec_len setups ≡ vec_len crew) }
     ensures members { IfOk result (λ setups. map (λ setup. (setup.handler, setup.observer)) setups.items ≡ crew.items) }
     ensures sources { IfOk result (λ setups. map (λ setup. setup.source) setups.items
@@ -71,7 +73,7 @@ pub(crate) fn setups_of<'a, L: Connection, A: Drop, O: Drop>(
     for (handler, observer) in crew {
         let role = role_at(normal, workers, setups.len());
         let cell = cell_at(cells, setups.len());
-        let source = LiveSource::new(connection, options, role, cell);
+        let source = LiveSource::new(connection, query_handler, options, role, cell);
         setups.push(WorkerSetup {
             source,
             handler,
@@ -83,7 +85,9 @@ pub(crate) fn setups_of<'a, L: Connection, A: Drop, O: Drop>(
 }
 
 /// Returns what all sources have counted together.
-pub(crate) fn gathered<L: Connection, A, O>(left: &[WorkerEnd<LiveSource<'_, L>, A, O>]) -> Tally
+pub(crate) fn gathered<L: Connection, Q: QueryHandler, A, O>(
+    left: &[WorkerEnd<LiveSource<'_, L, Q>, A, O>],
+) -> Tally
     ensures { result ≡ tallies_of (map (λ worker. worker.source.tally) left.now) }
 {
     let mut all = Tally::new();

@@ -1,20 +1,22 @@
-//! Runs a host with a desk that answers queries beside its workers.
+//! Runs a host with a desk that answers queries, and a timer of heartbeats, beside its workers.
 
 ghost use Rattle.std.specs.Prelude.{◌≡◌, ◌≤◌, ◌+◌, ◌↔◌, IfOk, Err, map, vec_capacity, vec_len};
 ghost use denote.Param.Send.{IsSend};
 ghost use Rattle.wh_host.specs.Machine.{IsConfig};
 ghost use Rattle.wh_poll.specs.Ends.{AreEnds, IsHostEnd};
 
+use crate::timer::send_held;
 use std::alloc::Global;
 use std::marker::Brand;
-use std::sync::Wait;
 use std::sync::ledger::{Blank, Ledger};
+use std::sync::{Arc, Wait};
 use std::thread;
 use std::thread::Threads;
 use std::time::Clock;
 use wh_client::{Client, Connection};
-use wh_companion::{Companion, put_spare, take_spare, with_spare};
+use wh_companion::{Companion, EndSignal, put_spare, take_spare, with_spare};
 use wh_events::OutOfMemory;
+use wh_heartbeat::ActivityCell;
 use wh_host::{Config, Host, OpenFault};
 use wh_ledger::Seat;
 use wh_poll::{
@@ -28,7 +30,8 @@ use wh_queryable::Queryable;
 type Ended<T, C, F, S, A, O> = (Vec<Seat<T, C, F>>, Vec<WorkerEnd<S, A, O>>);
 
 /// The same as `run_host_beside` of `wh_poll`, with a desk in one more thread, which answers the
-/// queries of a queue over the calls of a client. It does not change the host.
+/// queries of a queue over the calls of a client, and a timer in another one, which sends what the
+/// heartbeats of the workers hold in their cells over the same calls. Neither changes the host.
 pub(crate) fn run_host_answering<
     W: Queryable + Send,
     R: Threads + Wait + Clock + Sync,
@@ -45,6 +48,7 @@ pub(crate) fn run_host_answering<
     companion: Option<&P>,
     client: &Client<'_, L>,
     queries: &QueryQueue,
+    cells: &[Arc<ActivityCell>],
 ) -> Result<HostEnd<S, A, O>, OpenFault>
     ensures bad { (result ≡ Err OpenFault.BadConfig) ↔ (¬ (IsConfig config × (config.seats ≡ vec_len setups))) }
     ensures end { IfOk result (IsHostEnd W.program S.fetches S.delivers S.answers S.failures S.comes_from
@@ -63,6 +67,7 @@ pub(crate) fn run_host_answering<
         companion,
         client,
         queries,
+        cells,
         Blank::new(parts),
         Blank::new(parts),
         Blank::new(parts),
@@ -91,6 +96,7 @@ fn run_with<
     companion: Option<&P>,
     client: &Client<'_, L>,
     queries: &QueryQueue,
+    cells: &[Arc<ActivityCell>],
     taken: Blank,
     completed: Blank,
     failed: Blank,
@@ -107,7 +113,7 @@ fn run_with<
     let (host, mut seats) = Host::<W, T, C, F>::open(alloc, config, taken, completed, failed)?;
     let spare = take_spare(&mut seats, setups.len());
     let (spare, ended) = run_answering(
-        rt, alloc, &host, seats, spare, setups, companion, client, queries,
+        rt, alloc, &host, seats, spare, setups, companion, client, queries, cells,
     );
     let (mut seats, workers) = ended?;
     put_spare(&mut seats, spare);
@@ -119,8 +125,33 @@ fn run_with<
     })
 }
 
-/// Runs the workers of an open host, with the companion beside them, if there is one, and a desk
-/// that answers their queries until they have ended. The companion's seat is returned unchanged.
+/// Answers the queries of the queue and sends what is held in the cells, in two threads, until the
+/// workers have ended. If there is no thread for the cells, nothing is sent from them.
+fn run_desks<
+    R: Threads + Wait + Clock + Sync,
+    W: Queryable + Send,
+    T: Ledger + Send,
+    C: Ledger + Send,
+    F: Ledger + Send,
+    L: Connection + Sync,
+>(
+    rt: &R,
+    host: &Host<W, T, C, F>,
+    client: &Client<'_, L>,
+    queries: &QueryQueue,
+    cells: &[Arc<ActivityCell>],
+    signal: &EndSignal,
+) {
+    let ((), ()) = thread::join(
+        rt,
+        move || send_held(rt, client, cells, signal),
+        move || answer_queries(rt, host, client, queries),
+    );
+}
+
+/// Runs the workers of an open host, with the companion beside them, if there is one, and the desks
+/// for their queries and their heartbeats until they have ended. The companion's seat is returned
+/// unchanged.
 fn run_answering<
     R: Threads + Wait + Clock + Sync,
     W: Queryable + Send,
@@ -142,6 +173,7 @@ fn run_answering<
     companion: Option<&P>,
     client: &Client<'_, L>,
     queries: &QueryQueue,
+    cells: &[Arc<ActivityCell>],
 ) -> (
     Option<Seat<T, C, F>>,
     Result<Ended<T, C, F, S, A, O>, OutOfMemory>,
@@ -155,11 +187,13 @@ fn run_answering<
     ensures ends { IfOk result.1 (λ ended. AreEnds W.program S.fetches S.delivers S.answers S.failures S.comes_from
         A.may O.hears seats.items setups.items ended.1.items) }
 {
+    let signal = &EndSignal::new();
+    signal.begin(rt);
     let ((), ended) = thread::join(
         rt,
         move ||
             requires { IsSend W.row × IsSend W.State.row }
-        { answer_queries(rt, host, client, queries) },
+        { run_desks(rt, host, client, queries, cells, signal) },
         move || -> (
             Option<Seat<T, C, F>>,
             Result<Ended<T, C, F, S, A, O>, OutOfMemory>,
@@ -176,6 +210,7 @@ fn run_answering<
             queries.begin(rt);
             let ended = run_beside(rt, alloc, host, seats, spare, setups, &OpenGate, companion);
             queries.end(rt);
+            signal.end(rt);
             ended
         },
     );

@@ -7,6 +7,8 @@ mod heartbeats;
 mod hosting;
 pub mod laws;
 mod serving;
+mod task_queries;
+mod timer;
 
 pub use heartbeats::LiveHeartbeat;
 pub use serving::{LiveEnd, read_input, serve_live};

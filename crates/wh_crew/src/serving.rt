@@ -2,25 +2,30 @@
 
 ghost use Rattle.std.specs.Prelude.{◌≡◌, ◌+◌, ◌↔◌, Err, IfOk, vec_len};
 ghost use Rattle.wh_crew.specs.Serving.{HasServed};
+ghost use Rattle.wh_crew.specs.TaskQueries.{AnswersByReplay};
 ghost use Rattle.wh_host.specs.Machine.{IsConfig};
 
 use crate::bridge_connection::BridgeConnection;
 use crate::crews::{gathered, setups_of};
 use crate::hosting::run_host_answering;
+use crate::task_queries::ByClosure;
 use std::alloc::Global;
 use std::io::BufReader;
 use std::sync::{Arc, Wait};
 use std::thread::Threads;
 use std::time::Clock;
 use wh_client::{Client, LiveOptions};
+use wh_commands::Members;
 use wh_companion::Companion;
+use wh_events::Event;
 use wh_heartbeat::ActivityCell;
 use wh_host::{Config, OpenFault, Totals};
-use wh_live::{LiveSource, Tally};
+use wh_live::{LiveSource, QueryHandler, Tally};
 use wh_poll::{ActivityHandler, Observer};
 use wh_query_desk::QueryQueue;
 use wh_queryable::Queryable;
 use wh_rpc::{Caller, read_lines};
+use wh_task_queries::results_beside;
 use wh_tester::Shown;
 
 /// What a host of a server's tasks has counted when it has ended.
@@ -59,6 +64,80 @@ fn client_of<'x, L>(connection: &'x L, options: &'x LiveOptions) -> Client<'x, L
     }
 }
 
+/// Does what `serve_live` says, with this handler of the queries that come with tasks.
+fn serve_with<
+    'x,
+    W: Queryable + Send,
+    R: Threads + Wait + Clock + Eprint + Sync,
+    C: Caller + Sync,
+    A: ActivityHandler + Send + Drop,
+    O: Observer + Send + Drop,
+    P: Companion + Sync,
+    Q: QueryHandler + Sync,
+>(
+    rt: &'x R,
+    alloc: Global,
+    name: &'x str,
+    config: Config,
+    calls: &'x C,
+    options: &'x LiveOptions,
+    workers: usize,
+    crew: Vec<(A, O)>,
+    cells: &'x [Arc<ActivityCell>],
+    companion: Option<&P>,
+    query_handler: &'x Q,
+) -> Result<LiveEnd, OpenFault>
+    requires ready { Q.ready query_handler.now }
+    requires answers { AnswersByReplay (Q.gives_results query_handler.now) W.program W.queries W.definitions }
+    ensures bad { (result ≡ Err OpenFault.BadConfig) ↔ (¬ (IsConfig config × (config.seats ≡ vec_len crew))) }
+    ensures served { IfOk result (HasServed W.program A.may O.hears config options.now workers crew.items) }
+    ensures balanced { IfOk result (λ end.
+        end.totals.taken ≡ end.totals.completed + end.totals.failed + end.totals.in_hand) }
+{
+    if config.seats != crew.len() || !config.is_within() {
+        return Err(OpenFault::BadConfig);
+    }
+    let connection = &BridgeConnection {
+        rt,
+        calls,
+        name,
+        queries: QueryQueue::new(alloc),
+    };
+    let client = client_of(connection, options);
+    let setups = setups_of(
+        alloc,
+        connection,
+        query_handler,
+        options,
+        workers,
+        crew,
+        cells,
+    )?;
+    let end = run_host_answering::<
+        W,
+        R,
+        LiveSource<'_, BridgeConnection<R, C>, Q>,
+        A,
+        O,
+        P,
+        BridgeConnection<R, C>,
+    >(
+        rt,
+        alloc,
+        config,
+        setups,
+        companion,
+        &client,
+        &connection.queries,
+        cells,
+    )?;
+    let _ = client.give_up_queue();
+    Ok(LiveEnd {
+        totals: end.totals,
+        tally: gathered(end.workers.as_slice()),
+    })
+}
+
 /// Opens a host of these sizes, runs a worker in a thread of its own for each member of the crew,
 /// over the calls of a server, and closes the host once all have ended: when the calls are closed,
 /// or when no later poll can succeed.
@@ -72,10 +151,13 @@ fn client_of<'x, L>(connection: &'x L, options: &'x LiveOptions) -> Client<'x, L
 ///
 /// The cells are those of the crew's members, in their order: by its cell a handler's
 /// `LiveHeartbeat` knows which task it runs. A member without one never learns that its activity is
-/// to be canceled.
+/// to be canceled. A timer in a thread of its own sends what the heartbeats hold in the cells, once
+/// the interval since the last one that was sent is over (Temporal documentation, "Activity
+/// Heartbeat").
 ///
-/// Queries of runs are answered in one more thread, from a cached run or by replay of the run's
-/// history: they take no slot, and change no count (Temporal documentation, "Queries").
+/// Queries that come alone are answered in one more thread, from a cached run or by replay of the
+/// run's history: they take no slot, and change no count (Temporal documentation, "Queries"). Those
+/// that come with a task are answered with it, by replay of the run's events.
 ///
 /// The companion, if there is one, runs beside the workers in one more thread, as `run_host_beside`
 /// of `wh_poll` says. Faults are reported on standard error, after the program's name.
@@ -108,37 +190,22 @@ pub fn serve_live<
     ensures balanced { IfOk result (λ end.
         end.totals.taken ≡ end.totals.completed + end.totals.failed + end.totals.in_hand) }
 {
-    if config.seats != crew.len() || !config.is_within() {
-        return Err(OpenFault::BadConfig);
-    }
-    let connection = &BridgeConnection {
-        rt,
-        calls,
-        name,
-        queries: QueryQueue::new(alloc),
+    let query_handler = ByClosure {
+        answer: |alloc: Global, events: &[Event], queries: &Members| {
+            results_beside::<W>(alloc, events, queries)
+        },
     };
-    let client = client_of(connection, options);
-    let setups = setups_of(alloc, connection, options, workers, crew, cells)?;
-    let end = run_host_answering::<
-        W,
-        R,
-        LiveSource<'_, BridgeConnection<R, C>>,
-        A,
-        O,
-        P,
-        BridgeConnection<R, C>,
-    >(
+    serve_with::<W, R, C, A, O, P, _>(
         rt,
         alloc,
+        name,
         config,
-        setups,
+        calls,
+        options,
+        workers,
+        crew,
+        cells,
         companion,
-        &client,
-        &connection.queries,
-    )?;
-    let _ = client.give_up_queue();
-    Ok(LiveEnd {
-        totals: end.totals,
-        tally: gathered(end.workers.as_slice()),
-    })
+        &query_handler,
+    )
 }

@@ -1,2 +1,4 @@
 pub mod Cells
 pub mod Infos
+pub mod Pace
+pub mod Throttling

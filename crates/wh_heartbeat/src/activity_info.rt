@@ -6,9 +6,9 @@ ghost use Rattle.wh_heartbeat.specs.Infos.{first_attempt, no_times};
 use wh_events::{Items, OutOfMemory, Payload};
 
 /// The times of an activity task, as far as the server tells them: points in time in milliseconds
-/// since 1970-01-01T00:00:00Z, and timeouts in milliseconds, all rounded down. `None` is a time that
-/// the server does not tell, or that can't be read (Temporal documentation, "Detecting Activity
-/// failures").
+/// since 1970-01-01T00:00:00Z, and timeouts in milliseconds, all rounded down. `None` is a time
+/// that the server does not tell, or that can't be read, and a timeout that is not set (Temporal
+/// documentation, "Detecting Activity failures").
 #[derive(Clone, Copy, Debug)]
 pub struct ActivityTimes {
     /// When the activity was scheduled, before its first attempt.
@@ -17,11 +17,11 @@ pub struct ActivityTimes {
     pub attempt_scheduled: Option<u64>,
     /// When this attempt was given to a worker.
     pub started: Option<u64>,
-    /// The Heartbeat Timeout: the longest time between two heartbeats. 0 is none.
+    /// The Heartbeat Timeout: the longest time between two heartbeats.
     pub heartbeat_timeout: Option<u64>,
     /// The Start-To-Close Timeout: the longest time that one attempt takes.
     pub start_to_close: Option<u64>,
-    /// The Schedule-To-Close Timeout: the longest time that all attempts take.
+    /// The Schedule-To-Close Timeout: the longest time that all attempts take together.
     pub schedule_to_close: Option<u64>,
 }
 

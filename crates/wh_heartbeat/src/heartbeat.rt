@@ -17,7 +17,7 @@ pub enum HeartbeatResponse {
     /// has dropped it, or the connection has closed.
     Gone,
     /// There was no response: the server or the bridge refused the call or gave up. The activity
-    /// goes on, and its handler can send another heartbeat.
+    /// goes on, and the details are held, to be sent again later.
     Unheard,
 }
 
@@ -25,7 +25,7 @@ pub enum HeartbeatResponse {
 /// "Activity Heartbeat"). A handler with a heartbeat can send heartbeats during `run`, for the task
 /// that it runs.
 pub trait Heartbeat {
-    ghost use Rattle.std.specs.Prelude.{List};
+    ghost use Rattle.std.specs.Prelude.{◌≡◌, List, false};
     ghost use Rattle.wh_events.specs.declared.event.Payload.{Payload};
     ghost use Rattle.wh_heartbeat.specs.declared.activity_info.ActivityInfo.{ActivityInfo};
     ghost use Rattle.wh_heartbeat.specs.declared.heartbeat.HeartbeatResponse.{HeartbeatResponse};
@@ -36,23 +36,35 @@ pub trait Heartbeat {
     /// Which info a handler may get of a task.
     ghost tells: { ActivityInfo → Type 0 };
 
+    /// How the heartbeats are once what was held is sent. One that leaves it out says nothing of
+    /// it.
+    ghost is_flushed: { Self → Type 0 } = { λ heartbeat. Unit {0} };
+
     /// Sends a heartbeat and returns the response. The server may pass the details to a later
-    /// attempt. Returns `OutOfMemory` if there was no memory for the call. Nothing was sent then,
-    /// and the handler can send another heartbeat.
+    /// attempt. A heartbeat that comes soon after another may be held, and its details are sent
+    /// later, unless those of another take their place (Temporal documentation, "Activity
+    /// Heartbeat", on throttling). Its response is by what former ones heard. Returns `OutOfMemory`
+    /// if there was no memory for it, and the handler can send another heartbeat.
     fn send(&mut self, details: &[Payload]) -> Result<HeartbeatResponse, OutOfMemory>
         ensures { IfOk result (brings details.now) };
 
     /// Returns what the response to the poll said of the task that runs: which attempt it is, the
     /// details of the last heartbeat of an earlier attempt, with which a handler can go on where
     /// that one was, and the times. Returns `OutOfMemory` if there was no memory for a copy, or for
-    /// the info when the task came. A handler that then returns `OutOfMemory` too leaves the task
-    /// to a later attempt.
+    /// the info when the task came. If the handler then returns `OutOfMemory` too, the task gets no
+    /// answer: it times out, and a later attempt, if there is one, goes on.
     fn info(&self) -> Result<ActivityInfo, OutOfMemory>
         ensures { IfOk result tells };
+
+    /// Ends the heartbeats of the task that runs, after its handler has returned. Unless the
+    /// handler completed the activity, it first sends the details that are held, if any are, so
+    /// that a later attempt gets the last ones. A handler does not call it.
+    fn finish(&mut self, is_completed: bool)
+        ensures { is_completed ≡ false → is_flushed self.new };
 }
 
-/// Sends no heartbeats, for tasks that came from no server: each response is `GoOn`, and each task
-/// is a first attempt of which no times are told.
+/// Sends no heartbeats and holds none, for tasks that came from no server: each response is `GoOn`,
+/// and each task is a first attempt of which no times are told.
 #[derive(Drop)]
 pub struct NoHeartbeat;
 
@@ -72,4 +84,6 @@ impl Heartbeat for NoHeartbeat {
     fn info(&self) -> Result<ActivityInfo, OutOfMemory> {
         Ok(ActivityInfo::of_first_attempt())
     }
+
+    fn finish(&mut self, _is_completed: bool) {}
 }

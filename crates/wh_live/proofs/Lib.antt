@@ -1,4 +1,8 @@
+pub mod Ending
 pub mod Faults
+pub mod Keeping
 pub mod Later
+pub mod Receipts
 pub mod Silent
 pub mod Waiting
+pub mod Queried

@@ -4,5 +4,6 @@ pub mod Answering
 pub mod Counting
 pub mod Opening
 pub mod Polls
+pub mod Receipts
 pub mod Troubles
 pub mod Activities

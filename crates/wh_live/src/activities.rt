@@ -1,10 +1,10 @@
 //! Answers activity tasks.
 
 ghost use Rattle.std.specs.Prelude.{◌≡◌, ◌++◌, ◌∷◌, [], IfOk, OnOk, OnErr};
-ghost use Rattle.wh_client.specs.declared.codes.Receipt.TheVariants.{Acknowledged};
 ghost use Rattle.wh_tasks.specs.declared.source.Sent.TheVariants.{Activity as OfActivity};
 ghost use Rattle.wh_tasks.specs.Source.{FailsOnly};
-ghost use Rattle.wh_live.specs.Private.Activities.{AnswersActivity, IsActivityRequest};
+ghost use Rattle.wh_live.specs.Private.Activities.{IsActivityReceipt, IsActivityRequest};
+ghost use Rattle.wh_live.specs.Private.Answering.{IsOpenReceipt, Settles};
 
 use crate::answering::{send_written, settle};
 use crate::journals::Journal;
@@ -45,8 +45,7 @@ fn respond<L: Connection>(
     task: &OpenTask,
     answer: &ActivityAnswer,
 ) -> Receipt
-    ensures { result ≡ Acknowledged →
-        AnswersActivity L.gives client.now.options.now.names task.now.token answer.now }
+    ensures { IsActivityReceipt L.gives L.fails client.now.options.now.names answer.now task.now result }
 {
     let was_canceled = client.was_canceled(&task.token);
     let request = activity_request(client, task, answer, was_canceled);
@@ -61,11 +60,18 @@ fn answer_open<L: Connection>(
     current: &Option<OpenTask>,
     name: TaskName,
     answer: &ActivityAnswer,
-) -> Receipt {
-    match current {
-        Some(task) if task.name == name => respond(client, task, answer),
-        _ => Receipt::Lost,
+) -> Receipt
+    ensures { IsOpenReceipt
+        (IsActivityReceipt L.gives L.fails client.now.options.now.names answer.now)
+        current.now name result }
+{
+    let Some(task) = current else {
+        return Receipt::Lost;
+    };
+    if task.name != name {
+        return Receipt::Lost;
     }
+    respond(client, task, answer)
 }
 
 /// Answers the activity task of a name, and records the answer if it counts as taken.
@@ -80,6 +86,9 @@ pub(crate) fn answer_activity<L: Connection>(
     ensures sent { OnOk result (taken.new.items ≡ taken.old.items ++ (name, OfActivity answer.now) ∷ []) }
     ensures unsent { OnErr result (taken.new.items ≡ taken.old.items) }
     ensures failures { FailsOnly result journal.old.tally.failures journal.new.tally.failures }
+    ensures settled { Settles (IsOpenReceipt
+        (IsActivityReceipt L.gives L.fails client.now.options.now.names answer.now) current name)
+        result journal.old.tally journal.new.tally }
 {
     let Ok(copy) = answer.try_copy() else {
         return Err(SourceFault::OutOfMemory);

@@ -1,29 +1,34 @@
 //! Answers workflow tasks, and sends and counts answers.
 
 ghost use Rattle.std.specs.Prelude.{◌≡◌, ◌≢◌, ◌≤◌, ◌<◌, ◌↔◌, ◌++◌, ◌∷◌, [], true, false, None, Ok, IsTrue, IsOk};
-ghost use Rattle.std.specs.Prelude.{IfOk, IsOkAnd, OnOk, OnErr};
+ghost use Rattle.std.specs.Prelude.{IfOk, MatchResult, OnOk, OnErr};
+ghost use Rattle.serde_json.specs.View.{members_view};
 ghost use Rattle.wh_client.specs.Codes.{is_taken};
-ghost use Rattle.wh_client.specs.Requests.{IsAcknowledged};
-ghost use Rattle.wh_client.specs.declared.codes.Receipt.TheVariants.{Acknowledged, Withheld};
+ghost use Rattle.wh_client.specs.declared.codes.Receipt.TheVariants.{Acknowledged, NoMemory, Replaced, Withheld};
 ghost use Rattle.wh_commands.specs.CarryingOver.{carried_seen};
+ghost use Rattle.wh_commands.specs.declared.fault.RequestFault.TheVariants.{OutOfMemory as Unwritten};
 ghost use Rattle.wh_tasks.specs.declared.source.Sent.TheVariants.{Workflow as OfWorkflow};
 ghost use Rattle.wh_tasks.specs.Source.{FailsOnly};
 ghost use Rattle.wh_live.specs.Answers.{cause_of, receipt_of};
 ghost use Rattle.wh_live.specs.Private.Answering.{AnswersOpen, CompletesTask, CompletesWith, FailsTask, HasAnswer};
-ghost use Rattle.wh_live.specs.Private.Answering.{IsKeptBack, IsReplaced, counts_fault};
+ghost use Rattle.wh_live.specs.Private.Answering.{IsAnswerReceipt, IsKeptBack, IsOpenReceipt, IsReplaced, Settles};
+ghost use Rattle.wh_live.specs.Private.Answering.{counts_fault};
 ghost use Rattle.wh_live.specs.Private.Answering.{is_reported};
 ghost use Rattle.wh_live.specs.Private.Answering.{receipt_of_sent, reports_refusal, run_use};
 ghost use Rattle.wh_live.specs.Private.Counting.{settled};
+ghost use Rattle.wh_live.specs.Private.Receipts.{IsRequestReceipt};
 
 use crate::journals::Journal;
+use crate::query_handler::QueryHandler;
 use crate::task_log::log_workflow;
+use crate::task_queries::complete_answered;
 use crate::tasks::OpenTask;
 use crate::texts::{fault_text, history_text, replay_text, request_text};
 use std::alloc::AllocError;
 use wh_client::{
     AskFault, Client, Connection, Receipt, Request, Status, accepted_answer, refused_answer,
 };
-use wh_commands::{CarriedOver, RequestFault, continues_as_new};
+use wh_commands::{CarriedOver, Members, RequestFault, continues_as_new};
 use wh_events::{Event, OutOfMemory};
 use wh_ghost_list::GhostList;
 use wh_json::ReadFault;
@@ -108,7 +113,7 @@ fn run_use(receipt: Receipt) -> RunUse
 }
 
 /// Reports something about a task.
-fn report_of<L: Connection>(client: &Client<'_, L>, task: &OpenTask, what: &str) {
+pub(crate) fn report_of<L: Connection>(client: &Client<'_, L>, task: &OpenTask, what: &str) {
     if let Ok(text) = task.said(client.allocator(), what) {
         client.connection.report(text.as_str());
     }
@@ -123,14 +128,14 @@ fn report_fault<L: Connection>(client: &Client<'_, L>, task: &OpenTask, fault: &
 
 /// Returns what became of an answer that was sent, by whether the server discarded the task, and
 /// reports it if it was refused or lost and that is not normal.
-fn receive<L: Connection>(
+pub(crate) fn receive<L: Connection>(
     client: &Client<'_, L>,
     task: &OpenTask,
     sent: Result<bool, AskFault>,
 ) -> Receipt
     ensures is { result ≡ receipt_of_sent sent }
-    ensures acknowledged { result ≡ Acknowledged → sent ≡ Ok false }
     ensures sent { result ≢ Withheld }
+    ensures kept { result ≢ Replaced }
 {
     match sent {
         Ok(is_discarded) => accepted_answer(is_discarded),
@@ -149,8 +154,10 @@ pub(crate) fn send_written<L: Connection>(
     task: &OpenTask,
     request: Result<Request, OutOfMemory>,
 ) -> Receipt
-    ensures acknowledged { result ≡ Acknowledged → IsOkAnd request (λ request. IsAcknowledged L.gives request) }
+    ensures received { MatchResult request
+        (λ request. IsRequestReceipt L.gives L.fails request result) (λ _. result ≡ NoMemory) }
     ensures sent { result ≢ Withheld }
+    ensures kept { result ≢ Replaced }
 {
     match request {
         Ok(request) => {
@@ -169,8 +176,9 @@ fn fail<L: Connection>(
     message: &str,
 ) -> Receipt
     ensures later { (result ≡ Withheld) ↔ (1 < task.now.attempt) }
-    ensures sent { result ≡ Acknowledged →
-        FailsTask L.gives client.now.options.now.names task.now.token cause }
+    ensures sent { result ≢ Withheld →
+        FailsTask L.gives L.fails client.now.options.now.names task.now.token cause result }
+    ensures kept { result ≢ Replaced }
 {
     report_of(client, task, message);
     if !sends_failure(task.attempt) {
@@ -183,8 +191,9 @@ fn fail<L: Connection>(
 /// Fails a workflow task because of a fault of replay.
 fn fail_replay<L: Connection>(client: &Client<'_, L>, task: &OpenTask, fault: &Fault) -> Receipt
     ensures later { result ≡ Withheld → 1 < task.now.attempt }
-    ensures sent { result ≡ Acknowledged →
-        FailsTask L.gives client.now.options.now.names task.now.token (cause_of fault.now) }
+    ensures sent { result ≢ Withheld →
+        FailsTask L.gives L.fails client.now.options.now.names task.now.token (cause_of fault.now) result }
+    ensures kept { result ≢ Replaced }
 {
     match replay_text(client.allocator(), fault) {
         Ok(text) => fail(client, task, cause_of(fault), text.as_str()),
@@ -228,7 +237,7 @@ fn send_completed<L: Connection>(
     task: &OpenTask,
     request: Request,
 ) -> Receipt
-    ensures acknowledged { result ≡ Acknowledged → IsAcknowledged L.gives request }
+    ensures received { IsRequestReceipt L.gives L.fails request result }
     ensures sent { result ≢ Withheld }
 {
     match client.send(request) {
@@ -240,63 +249,87 @@ fn send_completed<L: Connection>(
     }
 }
 
-/// Completes a workflow task with commands, after the events that they were replayed from, and with
-/// what its run carries over.
-fn complete_with<L: Connection>(
+/// Fails a workflow task whose completion can't be written, unless there is no memory.
+pub(crate) fn replace_unwritten<L: Connection>(
     client: &Client<'_, L>,
     task: &OpenTask,
-    commands: &[Command],
-    events: &[Event],
-    carried: &CarriedOver,
+    fault: &RequestFault,
 ) -> Receipt
-    ensures sent { result ≢ Withheld }
-    ensures acknowledged { result ≡ Acknowledged →
-        CompletesWith L.gives client.now.options.now task.now commands.now events.now (carried_seen carried.now) }
+    ensures replaced { IsReplaced result }
+    ensures memory { fault.now ≡ Unwritten → result ≡ NoMemory }
 {
-    match client.completed(&task.token, commands, events, carried) {
-        Ok(request) => send_completed(client, task, request),
-        Err(RequestFault::OutOfMemory) => Receipt::NoMemory,
-        Err(fault) => {
-            let reason = request_text(client.allocator(), &fault);
+    match fault {
+        RequestFault::OutOfMemory => Receipt::NoMemory,
+        RequestFault::TooLong { .. }
+        | RequestFault::NotScheduled { .. }
+        | RequestFault::NeverSent { .. } => {
+            let reason = request_text(client.allocator(), fault);
             replace(client, task, FailedCause::Unhandled, reason)
         }
     }
 }
 
-/// Completes a workflow task with commands, after the events that they were replayed from. If they
-/// continue the run as a new one, what it carries over is fetched first.
-fn complete<L: Connection>(
+/// Completes a workflow task with commands, after the events that they were replayed from, with
+/// results of queries, and with what its run carries over.
+pub(crate) fn complete_with<L: Connection>(
     client: &Client<'_, L>,
     task: &OpenTask,
     commands: &[Command],
     events: &[Event],
+    results: Members,
+    carried: &CarriedOver,
 ) -> Receipt
     ensures sent { result ≢ Withheld }
-    ensures acknowledged { result ≡ Acknowledged →
-        CompletesTask L.gives client.now.options.now task.now commands.now events.now }
+    ensures received { CompletesWith L.gives L.fails client.now.options.now task.now commands.now
+        events.now (members_view results.entries) (carried_seen carried.now) result }
+{
+    match client.completed(&task.token, commands, events, results, carried) {
+        Ok(request) => send_completed(client, task, request),
+        Err(fault) => replace_unwritten(client, task, &fault),
+    }
+}
+
+/// Completes a workflow task with commands, after the events that they were replayed from. If they
+/// continue the run as a new one, what it carries over is fetched first.
+fn complete<L: Connection, Q: QueryHandler>(
+    client: &Client<'_, L>,
+    query_handler: &Q,
+    task: &OpenTask,
+    commands: &[Command],
+    events: &[Event],
+) -> Receipt
+    requires { Q.ready query_handler.now }
+    ensures sent { result ≢ Withheld }
+    ensures received { CompletesTask (Q.gives_results query_handler.now) L.gives L.fails
+        client.now.options.now task.now commands.now events.now result }
 {
     if !continues_as_new(commands) {
-        return complete_with(client, task, commands, events, &CarriedOver::nothing());
+        let carried = CarriedOver::nothing();
+        return complete_answered(client, query_handler, task, commands, events, &carried);
     }
     match client.fetch_carried(&task.run) {
-        Ok(carried) => complete_with(client, task, commands, events, &carried),
+        Ok(carried) => {
+            complete_answered(client, query_handler, task, commands, events, &carried)
+        }
         Err(fault) => receive(client, task, Err(fault)),
     }
 }
 
 /// Answers a workflow task.
-fn respond<L: Connection>(
+fn respond<L: Connection, Q: QueryHandler>(
     client: &Client<'_, L>,
+    query_handler: &Q,
     task: &OpenTask,
     answer: &Answer,
     events: &[Event],
 ) -> Receipt
+    requires { Q.ready query_handler.now }
     ensures kept_back { result ≡ Withheld → IsKeptBack task.now answer.now }
-    ensures acknowledged { result ≡ Acknowledged →
-        HasAnswer L.gives client.now.options.now task.now answer.now events.now }
+    ensures received { result ≢ Withheld → HasAnswer (Q.gives_results query_handler.now)
+        L.gives L.fails client.now.options.now task.now answer.now events.now result }
 {
     match answer {
-        Answer::Complete(commands) => complete(client, task, commands.get(), events),
+        Answer::Complete(commands) => complete(client, query_handler, task, commands.get(), events),
         Answer::Fail(fault) => fail_replay(client, task, fault),
     }
 }
@@ -332,31 +365,35 @@ pub(crate) fn settle_unread<L: Connection>(
 }
 
 /// Answers the open workflow task, if it has this name, and logs how it ended.
-fn answer_open<L: Connection>(
+fn answer_open<L: Connection, Q: QueryHandler>(
     client: &Client<'_, L>,
+    query_handler: &Q,
     current: &Option<OpenTask>,
     name: TaskName,
     answer: &Answer,
     events: &[Event],
     steps: u64,
 ) -> Receipt
-    ensures { result ≡ Acknowledged →
-        AnswersOpen L.gives client.now.options.now current.now name answer.now events.now }
+    requires { Q.ready query_handler.now }
+    ensures { IsOpenReceipt (IsAnswerReceipt (Q.gives_results query_handler.now)
+        L.gives L.fails client.now.options.now answer.now events.now) current.now name result }
 {
-    match current {
-        Some(task) if task.name == name => {
-            let receipt = respond(client, task, answer, events);
-            log_workflow(client, task, answer, events, steps, receipt);
-            receipt
-        }
-        _ => Receipt::Lost,
+    let Some(task) = current else {
+        return Receipt::Lost;
+    };
+    if task.name != name {
+        return Receipt::Lost;
     }
+    let receipt = respond(client, query_handler, task, answer, events);
+    log_workflow(client, task, answer, events, steps, receipt);
+    receipt
 }
 
 /// Answers the workflow task of a name, and records the answer if it counts as taken. The run may
 /// be cached if the server acknowledged the answer and did not discard the task.
-pub(crate) fn answer_workflow<L: Connection>(
+pub(crate) fn answer_workflow<L: Connection, Q: QueryHandler>(
     client: &Client<'_, L>,
+    query_handler: &Q,
     journal: &mut Journal,
     taken: &mut GhostList<(TaskName, Sent)>,
     current: Option<OpenTask>,
@@ -365,10 +402,14 @@ pub(crate) fn answer_workflow<L: Connection>(
     events: &[Event],
     steps: u64,
 ) -> Acceptance
+    requires { Q.ready query_handler.now }
     ensures sent { OnOk result.sent (taken.new.items ≡ taken.old.items ++ (name, OfWorkflow answer.now) ∷ []) }
     ensures unsent { OnErr result.sent (taken.new.items ≡ taken.old.items) }
-    ensures run { result.run ≡ RunUse.Cache →
-        AnswersOpen L.gives client.now.options.now current name answer.now events.now }
+    ensures run { result.run ≡ RunUse.Cache → AnswersOpen (IsAnswerReceipt (Q.gives_results query_handler.now)
+        L.gives L.fails client.now.options.now answer.now events.now) current name Acknowledged }
+    ensures settled { Settles (IsOpenReceipt (IsAnswerReceipt (Q.gives_results query_handler.now)
+        L.gives L.fails client.now.options.now answer.now events.now) current name)
+        result.sent journal.old.tally journal.new.tally }
     ensures failures { FailsOnly result.sent journal.old.tally.failures journal.new.tally.failures }
 {
     let Ok(copy) = answer.try_copy(client.allocator()) else {
@@ -377,7 +418,7 @@ pub(crate) fn answer_workflow<L: Connection>(
             run: RunUse::Discard,
         };
     };
-    let receipt = answer_open(client, &current, name, answer, events, steps);
+    let receipt = answer_open(client, query_handler, &current, name, answer, events, steps);
     let sent = settle(journal, taken, receipt, (name, Sent::Workflow(copy)));
     Acceptance {
         sent,

@@ -1,8 +1,8 @@
 //! What a source keeps about its polls.
 
-ghost use Rattle.std.specs.Prelude.{◌≡◌, Ok, IfOk};
+ghost use Rattle.std.specs.Prelude.{◌≡◌, Ok, IfErr, IfOk};
 ghost use Rattle.wh_live.specs.Private.Counting.{with_brought, with_end};
-ghost use Rattle.wh_live.specs.Private.Polls.{end_of, EndsPoll, Reports, WaitsAfter, WaitsFor, polled_of};
+ghost use Rattle.wh_live.specs.Private.Polls.{end_of, EndsPoll, MayEnd, Reports, WaitsAfter, WaitsFor, polled_of};
 ghost use Rattle.wh_live.specs.Tallies.{no_counts};
 ghost use Rattle.wh_tasks.specs.Source.{FailsOnly, IfTask};
 ghost use Rattle.wh_live.specs.declared.tasks.Brought.TheVariants.{Task};
@@ -67,6 +67,7 @@ impl Journal {
         connection: &L,
         fault: &AskFault,
     ) -> Result<Polled<T>, SourceFault>
+        requires { MayEnd L.fails fault.now }
         ensures ends { EndsPoll (end_of fault.now) result }
         ensures failures { FailsOnly result self.old.tally.failures self.new.tally.failures }
         ensures tally { self.new.tally ≡ with_end (end_of fault.now) self.old.tally }
@@ -122,6 +123,7 @@ impl Journal {
         connection: &L,
         brought: Result<Brought<T>, AskFault>,
     ) -> Result<Polled<T>, SourceFault>
+        requires { IfErr brought (MayEnd L.fails) }
         ensures task { IfOk result (IfTask (λ task. brought ≡ Ok (Task task))) }
         ensures reports { Reports brought result }
         ensures failures { FailsOnly result self.old.tally.failures self.new.tally.failures }

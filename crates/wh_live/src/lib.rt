@@ -10,11 +10,14 @@ pub mod laws;
 mod live_source;
 mod polling;
 mod queries;
+mod query_handler;
 mod tallies;
 mod task_log;
+mod task_queries;
 mod tasks;
 mod texts;
 mod troubles;
 
 pub use live_source::LiveSource;
+pub use query_handler::QueryHandler;
 pub use tallies::Tally;

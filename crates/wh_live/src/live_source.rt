@@ -9,6 +9,7 @@ use crate::answering::answer_workflow;
 use crate::fetching::whole;
 use crate::journals::Journal;
 use crate::polling::{poll_activity, poll_workflow};
+use crate::query_handler::QueryHandler;
 use crate::tallies::Tally;
 use crate::tasks::OpenTask;
 use std::marker::Model;
@@ -44,11 +45,14 @@ fn acknowledged(run: RunUse, name: TaskName) -> Option<TaskName>
 /// acknowledged the answer, and did not say that it has discarded the task.
 ///
 /// It has one task at a time: a task that is not answered before the next poll is left to time out.
-/// A query that comes alone is passed, during the poll, to what answers queries beside the workers;
-/// one that comes with a task gets no result, so it comes again alone.
+/// A query that comes alone is passed, during the poll, to what answers queries beside the workers.
+/// One that comes with a task is answered with it, by the handler of queries. If the server does not
+/// accept so large an answer, it is sent again without the results, and the server asks such queries
+/// again alone.
 #[derive(Drop)]
-pub struct LiveSource<'a, L: Connection> {
+pub struct LiveSource<'a, L: Connection, Q: QueryHandler> {
     client: Client<'a, L>,
+    query_handler: &'a Q,
     role: Role,
     current: Option<OpenTask>,
     journal: Journal,
@@ -56,7 +60,7 @@ pub struct LiveSource<'a, L: Connection> {
     taken: GhostList<(TaskName, Sent)>,
 }
 
-impl<'a, L: Connection> Model for LiveSource<'a, L> {
+impl<'a, L: Connection, Q: QueryHandler> Model for LiveSource<'a, L, Q> {
     ghost use Rattle.std.specs.Prelude.{option_map};
     ghost use Rattle.wh_client.specs.Roles.{polls_sticky};
     ghost use Rattle.wh_live.specs.Deliveries.{LiveView};
@@ -73,18 +77,21 @@ impl<'a, L: Connection> Model for LiveSource<'a, L> {
       later = option_map later_kept s.current;
     } };
 
-    ghost invariant = { λ s. HasLater L.gives s.client.options.now.names (polls_sticky s.role) s.current };
+    ghost invariant = { λ s. HasLater L.gives s.client.options.now.names (polls_sticky s.role) s.current
+        × Q.ready s.query_handler.now };
 }
 
-impl<'a, L: Connection> LiveSource<'a, L> {
+impl<'a, L: Connection, Q: QueryHandler> LiveSource<'a, L, Q> {
     /// Returns a source of a role that has not polled yet. It notes in the cell which activity task
     /// runs, for a handler that sends heartbeats.
     pub fn new(
         connection: &'a L,
+        query_handler: &'a Q,
         options: &'a LiveOptions,
         role: Role,
         cell: Option<&'a ActivityCell>,
-    ) -> LiveSource<'a, L>
+    ) -> LiveSource<'a, L, Q>
+        requires { Q.ready query_handler.now }
         ensures { result ≡ fresh role options.entry.now.names }
     {
         LiveSource {
@@ -93,6 +100,7 @@ impl<'a, L: Connection> LiveSource<'a, L> {
                 options,
                 cell,
             },
+            query_handler,
             role,
             current: None,
             journal: Journal::new(),
@@ -109,7 +117,7 @@ impl<'a, L: Connection> LiveSource<'a, L> {
     }
 }
 
-impl<L: Connection> TaskSource for LiveSource<'_, L> {
+impl<L: Connection, Q: QueryHandler> TaskSource for LiveSource<'_, L, Q> {
     ghost answers = { λ source. source.answers };
 
     ghost failures = { λ source. source.tally.failures };
@@ -165,6 +173,7 @@ impl<L: Connection> TaskSource for LiveSource<'_, L> {
         let current = self.current.take();
         let accepted = answer_workflow(
             &self.client,
+            self.query_handler,
             &mut self.journal,
             &mut self.taken,
             current,

@@ -1,6 +1,6 @@
 //! Polls for tasks.
 
-ghost use Rattle.std.specs.Prelude.{◌≡◌, ◌↔◌, [], IfErr, IfOk, IsErr, Some, map};
+ghost use Rattle.std.specs.Prelude.{◌≡◌, ◌≢◌, ◌↔◌, [], IfErr, IfOk, IsErr, Some, map};
 ghost use Rattle.serde_json.specs.View.{view};
 ghost use Rattle.wh_client.specs.Histories.{ReadsEvents};
 ghost use Rattle.wh_client.specs.Refusals.{HasItsStatus};
@@ -12,7 +12,7 @@ ghost use Rattle.wh_live.specs.Deliveries.{AreLater, FromActivities, FromQueue, 
 ghost use Rattle.wh_live.specs.Deliveries.{IsTaskOf, IsWorkflowTask};
 ghost use Rattle.wh_live.specs.Private.Opening.{IsOpened, OnTask, Opens, OpensActivity, StaysOpen};
 ghost use Rattle.wh_live.specs.Private.Opening.{IsBrought, IsBroughtActivity, IsLost, IsSilent, IsTask};
-ghost use Rattle.wh_live.specs.Private.Opening.{MayOpen, MayRead};
+ghost use Rattle.wh_live.specs.Private.Opening.{IsActivityFault, IsCutShort, IsWorkflowFault, MayOpen, MayRead};
 ghost use Rattle.wh_live.specs.Private.Opening.{GivesOpened, HasLater, OpensPolled, OpensPolledActivity, OpensQueued};
 ghost use Rattle.wh_live.specs.Private.Opening.{later_events};
 ghost use Rattle.wh_replay.specs.Runs.{follows};
@@ -123,6 +123,7 @@ fn read_task<L: Connection>(
     ensures later { IfOk result (OnTask (λ taken. taken.0.later.items ≡ later_events taken.1.events)) }
     ensures brings { IfOk result (MayRead (map view members.now)) }
     ensures silent { IfErr result IsSilent }
+    ensures unclosed { IfErr result (λ why. why ≢ asked.Closed) }
 {
     match read_history(client.allocator(), members) {
         Ok(events) => Ok(Brought::Task(given(client.allocator(), task, run, events)?)),
@@ -148,6 +149,8 @@ fn open_task<L: Connection>(
     ensures later { IfOk result (OnTask (λ taken. taken.0.later.items ≡ later_events taken.1.events)) }
     ensures brings { IfOk result (MayOpen L.gives client.now.options.now.names (task_seen polled)) }
     ensures silent { IfErr result IsSilent }
+    ensures closed { IfErr result (λ why. why ≡ asked.Closed →
+        IsCutShort L.gives L.fails client.now.options.now.names (task_seen polled)) }
 {
     let PolledTask {
         token,
@@ -155,11 +158,12 @@ fn open_task<L: Connection>(
         attempt,
         members,
         next_page,
-        ..
+        queries,
     } = polled;
     let key = run.try_copy()?;
     let mut opened = OpenTask::new(client.allocator(), id, token, key);
     opened.attempt = attempt;
+    opened.queries = queries;
     match client.with_pages(&run, next_page, members) {
         Ok(members) => read_task(client, opened, run, members.as_slice()),
         Err(fault) => give_up(client, &opened, fault),
@@ -179,6 +183,8 @@ fn take_workflow<L: Connection>(
     ensures later { IfOk result (OnTask (λ taken.
         AreLater L.gives client.now.options.now.names (Some sticky) taken.0.run taken.0.later.items)) }
     ensures brings { IfOk result (IsBrought L.gives client.now.options.now.names sticky) }
+    ensures failed { IfErr result
+        (IsWorkflowFault L.gives L.fails client.now.options.now.names sticky) }
     ensures refused { IfErr result HasItsStatus }
 {
     let (id, poll) = client.ask_workflow(sticky)?;
@@ -204,6 +210,7 @@ fn open_activity<L: Connection>(
     ensures later { IfOk result (OnTask (λ taken. taken.0.later.items ≡ [])) }
     ensures brings { IfOk result IsTask }
     ensures silent { IfErr result IsSilent }
+    ensures unclosed { IfErr result (λ why. why ≢ asked.Closed) }
 {
     let PolledActivity {
         token,
@@ -239,6 +246,7 @@ fn take_activity<L: Connection>(
         OpensPolledActivity L.gives client.now.options.now.names taken.0 taken.1)) }
     ensures later { IfOk result (OnTask (λ taken. taken.0.later.items ≡ [])) }
     ensures brings { IfOk result (IsBroughtActivity L.gives client.now.options.now.names) }
+    ensures failed { IfErr result (IsActivityFault L.gives L.fails client.now.options.now.names) }
     ensures refused { IfErr result HasItsStatus }
 {
     let (id, poll) = client.ask_activity()?;

@@ -2,7 +2,9 @@
 
 ghost use Rattle.std.specs.Prelude.{◌≡◌, []};
 
+use serde_json::Map;
 use std::alloc::{AllocError, Global};
+use wh_commands::Members;
 use wh_events::{Event, EventKind, RunKey, Text};
 use wh_slots::TaskName;
 use wh_tester::Shown;
@@ -26,6 +28,8 @@ pub(crate) struct OpenTask {
     pub(crate) from_first: bool,
     /// The events that it came with, unless they begin with the first one of its run.
     pub(crate) later: Vec<Event>,
+    /// The queries that came with it, by their ids.
+    pub(crate) queries: Members,
 }
 
 /// Returns the type of the workflow of a history that begins with its first event.
@@ -53,6 +57,7 @@ impl OpenTask {
             events: 0,
             from_first: false,
             later: Vec::new(alloc),
+            queries: Map::new(alloc),
         }
     }
 

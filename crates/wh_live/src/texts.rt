@@ -46,6 +46,13 @@ pub(crate) fn lost_text(
     task.said(alloc, text.as_str())
 }
 
+/// Describes why the completion of a task with the results of its queries is too large, and what
+/// follows.
+pub(crate) fn oversized_text(alloc: Global, fault: &AskFault) -> Result<String, AllocError> {
+    let text = fault_text(alloc, fault)?;
+    format!(in alloc; "{text}; it is sent again without the results of queries")
+}
+
 /// Describes the error of a refused call.
 fn refusal_text(alloc: Global, code: i64, message: &str) -> Result<String, AllocError> {
     let message = Shown(message);

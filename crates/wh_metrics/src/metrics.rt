@@ -42,6 +42,7 @@ pub struct Metrics {
     /// Tasks that were completed, and whose answer the server took.
     pub completed: u64,
     /// Tasks that failed: they were answered with a failure that the server took, or not at all.
+    /// One that is given up as it comes is none of them.
     pub failed: u64,
     /// What the host holds, if that is known.
     pub held: Option<Held>,

@@ -1,5 +1,5 @@
 -- The answers to queries of live runs.
-use Rattle.std.specs.Prelude.{◌≡◌, ◌⊎◌, ℕ, Bool, true, List, codes, Option, Some, None, Result, Ok, Err, length}
+use Rattle.std.specs.Prelude.{◌≡◌, ◌⊎◌, ℕ, Bool, true, List, codes, Option, Some, None, Ok, length}
 use Rattle.std.specs.Map.{lookup}
 use Rattle.serde_json.specs.Data.{Data}
 use Rattle.wh_client.specs.Calls.{Gives}
@@ -21,8 +21,7 @@ use Rattle.wh_queryable.specs.Queries.{Queries}
 use Rattle.wh_queryable.specs.declared.queryable.QueryResult.{QueryResult}
 use Rattle.wh_queryable.specs.declared.queryable.QueryResult.TheVariants.{Failed}
 use Rattle.wh_replay.specs.Runs.{HistoryView, follows}
-use Rattle.wh_replay.specs.declared.fault.Fault.{Fault}
-use Rattle.wh_tester.specs.Faults.{replay_fault_text}
+use Rattle.wh_task_queries.specs.Results.{settled}
 use Rattle.wh_workflow.specs.Law.{Program}
 
 -- ---- Histories
@@ -46,11 +45,6 @@ AreRunEvents gives names run next_page members events =
     (IsOwn gives names run next_page members events × (follows 0 events ≡ true)) ⊎ IsFetched gives names run events
 
 -- ---- Results
-
--- the answer to send for a query's result, with a fault of replay in words
-abbrev pub settled : Result QueryResult Fault → QueryResult
-settled (Ok given) = given
-settled (Err fault) = Failed (replay_fault_text fault)
 
 module _ {S : Type 0} (program : Program S) (queries : Queries S) where
   -- the result of the query from the run that the host has cached under its key, if that ends in the last completed

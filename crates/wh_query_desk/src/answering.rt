@@ -6,7 +6,8 @@ ghost use Rattle.wh_replay.specs.Checks.{Answers};
 ghost use Rattle.wh_replay.specs.declared.fault.Fault.{Fault};
 ghost use Rattle.wh_query_messages.specs.Metadata.{metadata_asked};
 ghost use Rattle.wh_query_messages.specs.Polled.{query_in, query_seen};
-ghost use Rattle.wh_query_desk.specs.Answers.{AnswersPoll, IsGiven, IsQueryResult, IsSettled, settled};
+ghost use Rattle.wh_query_desk.specs.Answers.{AnswersPoll, IsGiven, IsQueryResult, IsSettled};
+ghost use Rattle.wh_task_queries.specs.Results.{settled};
 
 use crate::cached::query_cached;
 use crate::events::run_events;

@@ -14,8 +14,8 @@ use Rattle.wh_commands.proofs.Reading.{payloads_back, some_text_is}
 use Rattle.wh_responses.specs.Responses.{Page, page_in, run_in, query, query_or_task, poll_of_token, workflow_poll}
 use Rattle.wh_responses.specs.Served.{IsNamed, run_result}
 use Rattle.wh_queryable.specs.declared.queryable.Query.{Query}
-use Rattle.wh_query_messages.specs.Polled.{Asked, asked, number_or_zero, query_in, query_result, QueryIsRead}
-use Rattle.wh_query_messages.specs.Answers.{AnswersAreRead, AnswersDiffer, HasBytes, IsAnswer, query_answered, query_completed}
+use Rattle.wh_query_messages.specs.Polled.{Asked, number_or_zero, query_in, query_of, query_result, QueryIsRead, QueryWithTaskIsRead}
+use Rattle.wh_query_messages.specs.Answers.{AnswersAreRead, AnswersDiffer, HasBytes, IsAnswer, ResultsAreRead, ResultsDiffer, query_answered, query_completed}
 
 number_back : (n : ℕ) → n < 2 ^ 63 → number_of (number (unsigned n)) ≡ Some n
 unfolding number_of
@@ -27,7 +27,7 @@ run_back run are = rw (some_text_is run.workflow_id are.0, some_text_is run.run_
 
 query_back : (polled : Asked) → IsNamed polled.run → polled.query.query_type ≢ [] → HaveBytes polled.query.input → polled.previous < 2 ^ 63
     → query_in polled.token (query_result polled) ≡ Some polled
-unfolding query_in asked page_in field list_in
+unfolding query_in query_of page_in field list_in
 query_back polled run query_type bytes small =
     rw (run_back polled.run run, some_text_is polled.query.query_type query_type, payloads_back polled.query.input bytes, number_back polled.previous small, list_back polled.members) refl
 
@@ -39,6 +39,10 @@ pub query_is_read : QueryIsRead
 unfolding field
 query_is_read polled token run query_type bytes small =
     (token_there polled.token (query_result polled) _ token refl, query_back polled run query_type bytes small)
+
+pub query_with_task_is_read : QueryWithTaskIsRead
+unfolding query_of field
+query_with_task_is_read what query_type bytes = rw (some_text_is what.query_type query_type, payloads_back what.input bytes) refl
 
 pub answers_read : AnswersAreRead
 answers_read names token (Answered payloads) bytes =
@@ -66,12 +70,28 @@ answers_differ names token other_token (Answered payloads) (Failed other) bytes 
 answers_differ names token other_token (Failed reason) (Answered others) bytes other_bytes e =
     let is = ap (text_at (codes "completedType")) e in cc
 
+pub results_read : ResultsAreRead
+results_read (Answered payloads) bytes = record { kind = refl; answer = ap result_ok (payloads_back payloads bytes) }
+results_read (Failed reason) bytes = record { kind = refl; message = refl }
+
+pub results_differ : ResultsDiffer
+results_differ (Answered payloads) (Answered others) bytes other_bytes e =
+    let one = results_read (Answered payloads) bytes in
+    let two = results_read (Answered others) other_bytes in
+    ap Answered (some_same payloads others (sym one.answer ∙ ap (payloads_of (codes "answer")) e ∙ two.answer))
+results_differ (Failed reason) (Failed other) bytes other_bytes e =
+    ap Failed (some_same reason other (ap (text_at (codes "errorMessage")) e))
+results_differ (Answered payloads) (Failed other) bytes other_bytes e =
+    let is = ap (text_at (codes "resultType")) e in cc
+results_differ (Failed reason) (Answered others) bytes other_bytes e =
+    let is = ap (text_at (codes "resultType")) e in cc
+
 -- ---- Parts
 
 -- a query is read from its parts
 pub query_made : (token : List ℕ) (d : Data) (run : RunKey) (what : Query) (previous : ℕ) (page : Page)
     → run_in (field (codes "workflowExecution") (Some d)) ≡ Some run
-    → asked (field (codes "query") (Some d)) ≡ Some what
+    → query_of (field (codes "query") (Some d)) ≡ Some what
     → number_or_zero (field (codes "previousStartedEventId") (Some d)) ≡ Some previous
     → page_in d ≡ Some page
     → query_in token d ≡ Some (record { token = token; run = run; query = what; previous = previous; members = page.members; next_page = page.next_page })
@@ -81,7 +101,7 @@ query_made token d run what previous page is_run is_what is_previous is_page = r
 -- no query is read if the number of the last task is malformed
 pub query_not_numbered : (token : List ℕ) (d : Data) (run : RunKey) (what : Query)
     → run_in (field (codes "workflowExecution") (Some d)) ≡ Some run
-    → asked (field (codes "query") (Some d)) ≡ Some what
+    → query_of (field (codes "query") (Some d)) ≡ Some what
     → number_or_zero (field (codes "previousStartedEventId") (Some d)) ≡ None
     → query_in token d ≡ None
 unfolding query_in

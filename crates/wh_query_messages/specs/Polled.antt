@@ -40,8 +40,8 @@ number_or_zero None = Some 0
 number_or_zero (Some d) = number_of d
 
 -- the query: a type that is not empty, and arguments
-unfoldable pub asked : Option Data → Option Query
-asked value = do
+unfoldable pub query_of : Option Data → Option Query
+query_of value = do
   query_type ← needed (field (codes "queryType") value)
   input ← result_ok (payloads_at 0 (field (codes "queryArgs") value))
   Some (record { query_type = query_type; input = input })
@@ -50,7 +50,7 @@ asked value = do
 unfoldable pub query_in : List ℕ → Data → Option Asked
 query_in token d = do
   run ← run_in (field (codes "workflowExecution") (Some d))
-  what ← asked (field (codes "query") (Some d))
+  what ← query_of (field (codes "query") (Some d))
   previous ← number_or_zero (field (codes "previousStartedEventId") (Some d))
   page ← page_in d
   Some (record {
@@ -65,16 +65,17 @@ query_in token d = do
 -- ---- Laws
 
 -- a query as a server writes it
+abbrev pub query_written : Query → Data
+query_written what = object_of (
+    (codes "queryType", string what.query_type) ∷ (codes "queryArgs", payloads_written what.input) ∷ [])
+
+-- a query that comes alone, as a server writes it
 abbrev pub query_result : Asked → Data
 query_result polled = object_of (
     (codes "taskToken", string polled.token) ∷ (codes "workflowExecution", run_result polled.run)
     ∷ (codes "previousStartedEventId", number (unsigned polled.previous)) ∷ (codes "history", history_of polled.members)
     ∷ (codes "nextPageToken", string polled.next_page)
-    ∷ (
-      codes "query",
-      object_of ((codes "queryType", string polled.query.query_type)
-          ∷ (codes "queryArgs", payloads_written polled.query.input) ∷ []),
-    ) ∷ [])
+    ∷ (codes "query", query_written polled.query) ∷ [])
 
 -- a query is recognized as one and is read as it was written
 abbrev pub QueryIsRead : Type 0
@@ -82,3 +83,8 @@ QueryIsRead = (polled : Asked) → polled.token ≢ [] → IsNamed polled.run �
     → HaveBytes polled.query.input → polled.previous < 2 ^ 63
     → (workflow_poll (query_result polled) ≡ query polled.token (query_result polled))
     × (query_in polled.token (query_result polled) ≡ Some polled)
+
+-- a query that comes with a task is read as it was written
+abbrev pub QueryWithTaskIsRead : Type 0
+QueryWithTaskIsRead = (what : Query) → what.query_type ≢ [] → HaveBytes what.input
+    → query_of (Some (query_written what)) ≡ Some what

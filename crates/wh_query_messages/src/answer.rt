@@ -1,11 +1,11 @@
-//! Writes the answer to a query.
+//! Writes the answers to queries.
 
 ghost use Rattle.std.specs.Prelude.{◌≡◌, IfOk};
 ghost use Rattle.serde_json.specs.View.{view};
 ghost use Rattle.wh_query_messages.specs.Answers as spec;
 
-use serde_json::{Map, Value};
-use std::alloc::Global;
+use serde_json::{Map, Value, json};
+use std::alloc::{AllocError, Global};
 use wh_commands::{WorkerNames, put_payloads, put_text};
 use wh_events::{OutOfMemory, Payload};
 use wh_queryable::QueryResult;
@@ -47,4 +47,39 @@ pub fn query_completed(
         QueryResult::Answered(payloads) => query_answered(alloc, names, token, payloads.get()),
         QueryResult::Failed(reason) => query_failed(alloc, names, token, reason.get()),
     }
+}
+
+/// Writes the result of a query that has one.
+fn answered_value(alloc: Global, payloads: &[Payload]) -> Result<Value, AllocError>
+    ensures { IfOk result (λ value. view value ≡ spec.answered_written payloads.now) }
+{
+    let mut members = Map::new(alloc);
+    put_text(
+        &mut members,
+        alloc,
+        "resultType",
+        "QUERY_RESULT_TYPE_ANSWERED",
+    )?;
+    put_payloads(&mut members, alloc, "answer", payloads)?;
+    Ok(Value::Object(members))
+}
+
+/// Writes why a query has no result.
+fn failed_value(alloc: Global, reason: &str) -> Result<Value, AllocError>
+    ensures { IfOk result (λ value. view value ≡ spec.failed_written reason.now) }
+{
+    json!(in alloc; {"resultType": "QUERY_RESULT_TYPE_FAILED", "errorMessage": reason})
+}
+
+/// Writes the result of a query that came with a workflow task, as the completion of the task has it
+/// (Temporal's `WorkflowQueryResult`): payloads, or why there are none. `OutOfMemory` if there was no
+/// memory for it.
+pub fn result_value(alloc: Global, given: &QueryResult) -> Result<Value, OutOfMemory>
+    ensures { IfOk result (λ value. view value ≡ spec.result_written given.now) }
+{
+    let value = match given {
+        QueryResult::Answered(payloads) => answered_value(alloc, payloads.get()),
+        QueryResult::Failed(reason) => failed_value(alloc, reason.get()),
+    };
+    Ok(value?)
 }

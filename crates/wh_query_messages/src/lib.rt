@@ -7,6 +7,6 @@ pub mod laws;
 mod metadata;
 mod polled;
 
-pub use answer::query_completed;
+pub use answer::{query_completed, result_value};
 pub use metadata::{is_metadata, metadata_asked, query_metadata};
-pub use polled::{PolledQuery, polled_query};
+pub use polled::{PolledQuery, polled_query, query_of};

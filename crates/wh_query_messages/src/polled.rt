@@ -31,10 +31,11 @@ pub struct PolledQuery {
     pub next_page: Text,
 }
 
-/// Reads the type of a query, which is not empty, and its arguments.
-#[tactic(auto, unfolding(crate::specs::Polled::asked))]
-fn asked(alloc: Global, value: Option<&Value>) -> Result<Option<Query>, OutOfMemory>
-    ensures { IfOk result (λ query. query ≡ spec.asked (option_map (λ v. view v.now) value.entry)) }
+/// Reads the type and the arguments of a query (Temporal's `WorkflowQuery`). `None` if the type is
+/// missing or the arguments are malformed. `OutOfMemory` if there was no memory for them.
+#[tactic(auto, unfolding(crate::specs::Polled::query_of))]
+pub fn query_of(alloc: Global, value: Option<&Value>) -> Result<Option<Query>, OutOfMemory>
+    ensures { IfOk result (λ query. query ≡ spec.query_of (option_map (λ v. view v.now) value.entry)) }
 {
     let Some(query_type) = needed(alloc, field(value, "queryType"))? else {
         return Ok(None);
@@ -73,7 +74,7 @@ pub fn polled_query(
     let Some(run) = run_in(alloc, field(Some(&value), "workflowExecution"))? else {
         return Ok(None);
     };
-    let Some(query) = asked(alloc, field(Some(&value), "query"))? else {
+    let Some(query) = query_of(alloc, field(Some(&value), "query"))? else {
         return Ok(None);
     };
     let Some(previous) = number_or_zero(field(Some(&value), "previousStartedEventId")) else {

@@ -1,7 +1,7 @@
 -- A written answer is read back.
 use Rattle.std.proofs.Common.{◌≡◌, ◌≢◌, ℕ, Bool, true, false, List, [], ◌∷◌, ◌++◌, length, map, codes, Option, Some, None, option_map, option_and_then, Result, Ok, Err, refl, sym, ap, ◌∙◌, arith, append-nil, append_assoc}
 use Rattle.std.specs.Result.{result_ok}
-use Rattle.serde_json.specs.Data.{Data}
+use Rattle.serde_json.specs.Data.{Data, Members, no_members, member}
 use Rattle.serde_json.specs.Find.{get, as_array}
 use Rattle.wh_events.specs.declared.event.Event.{Event}
 use Rattle.wh_events.specs.declared.event.Payload.{Payload}
@@ -19,6 +19,7 @@ use Rattle.wh_commands.specs.Policies.{non_retryable}
 use Rattle.wh_requests.specs.Requests.{activity_completed, activity_failed, completed_with, workflow_completed, workflow_failed, cause_name}
 use Rattle.wh_commands.specs.ReadBack.{text_at, payloads_of, command_in, IsSent, HaveBytes, IsHistory}
 use Rattle.wh_requests.specs.Apart.{AreSent}
+use Rattle.wh_requests.specs.ServerReads.{results_in}
 use Rattle.wh_commands.proofs.Lists.{list_back}
 use Rattle.wh_commands.proofs.Reading.{command_back, payloads_back}
 
@@ -78,45 +79,59 @@ module _ (names : WorkerNames) (policies : Policies) (carried : Carried) (events
   abbrev listed : Data → Option (List (Option Command))
   listed d = option_map (λ ds. map (command_in events) (list_of ds)) (option_and_then as_array (get (codes "commands") d))
 
-  listed_with : (token : List ℕ) (queries : List (List ℕ)) (sticky : Option ℕ) (ds : List Data)
-      → listed (completed_with names token queries sticky ds) ≡ Some (map (command_in events) ds)
-  listed_with token queries None ds = ap (λ xs. Some (map (command_in events) xs)) (list_back ds)
-  listed_with token queries (Some timeout) ds = ap (λ xs. Some (map (command_in events) xs)) (list_back ds)
+  listed_with : (token : List ℕ) (results : Members) (sticky : Option ℕ) (ds : List Data)
+      → listed (completed_with names token results sticky ds) ≡ Some (map (command_in events) ds)
+  listed_with token no_members None ds = ap (λ xs. Some (map (command_in events) xs)) (list_back ds)
+  listed_with token no_members (Some timeout) ds = ap (λ xs. Some (map (command_in events) xs)) (list_back ds)
+  listed_with token (member id result results) None ds = ap (λ xs. Some (map (command_in events) xs)) (list_back ds)
+  listed_with token (member id result results) (Some timeout) ds =
+      ap (λ xs. Some (map (command_in events) xs)) (list_back ds)
 
-  token_with : (token : List ℕ) (queries : List (List ℕ)) (sticky : Option ℕ) (ds : List Data)
-      → text_at (codes "taskToken") (completed_with names token queries sticky ds) ≡ Some token
-  token_with token queries None ds = refl
-  token_with token queries (Some timeout) ds = refl
+  token_with : (token : List ℕ) (results : Members) (sticky : Option ℕ) (ds : List Data)
+      → text_at (codes "taskToken") (completed_with names token results sticky ds) ≡ Some token
+  token_with token no_members None ds = refl
+  token_with token no_members (Some timeout) ds = refl
+  token_with token (member id result results) None ds = refl
+  token_with token (member id result results) (Some timeout) ds = refl
+
+  results_with : (token : List ℕ) (results : Members) (sticky : Option ℕ) (ds : List Data)
+      → results_in (completed_with names token results sticky ds) ≡ Some results
+  results_with token no_members None ds = refl
+  results_with token no_members (Some timeout) ds = refl
+  results_with token (member id result results) None ds = refl
+  results_with token (member id result results) (Some timeout) ds = refl
 
   answers_same : (r : Result Data RequestFault) (a b : Data) → r ≡ Ok a → r ≡ Ok b → a ≡ b
   answers_same r a b e f = cc
 
-  completion_back : (token : List ℕ) (cs : List Command) (queries : List (List ℕ)) (sticky : Option ℕ) (d : Data) → AreSent cs
-      → workflow_completed names token cs events queries sticky policies carried ≡ Ok d
-      → (text_at (codes "taskToken") d ≡ Some token) × (listed d ≡ Some (map Some cs))
-  completion_back token cs queries sticky d sent is = by (written_after (written names policies carried events) [] cs) refl is
+  completion_back : (token : List ℕ) (cs : List Command) (results : Members) (sticky : Option ℕ) (d : Data) → AreSent cs
+      → workflow_completed names token cs events results sticky policies carried ≡ Ok d
+      → (text_at (codes "taskToken") d ≡ Some token) × (listed d ≡ Some (map Some cs)) × (results_in d ≡ Some results)
+  completion_back token cs results sticky d sent is = by (written_after (written names policies carried events) [] cs) refl is
     where
       by : (r : Result (List Data) RequestFault) → written_after (written names policies carried events) [] cs ≡ r
-          → on_written r (λ ds. Ok (completed_with names token queries sticky ds)) ≡ Ok d
-          → (text_at (codes "taskToken") d ≡ Some token) × (listed d ≡ Some (map Some cs))
+          → on_written r (λ ds. Ok (completed_with names token results sticky ds)) ≡ Ok d
+          → (text_at (codes "taskToken") d ≡ Some token) × (listed d ≡ Some (map Some cs)) × (results_in d ≡ Some results)
       by (Err fault) e is = cc
       by (Ok ds) e is =
-          let whole = completed_with names token queries sticky ds in
+          let whole = completed_with names token results sticky ds in
           let same = answers_same (Ok whole) whole d refl is in (
-            ap (text_at (codes "taskToken")) (sym same) ∙ token_with token queries sticky ds,
-            ap listed (sym same) ∙ listed_with token queries sticky ds ∙ ap Some (commands_back cs [] ds sent e),
+            ap (text_at (codes "taskToken")) (sym same) ∙ token_with token results sticky ds,
+            ap listed (sym same) ∙ listed_with token results sticky ds ∙ ap Some (commands_back cs [] ds sent e),
+            ap results_in (sym same) ∙ results_with token results sticky ds,
           )
 
-  pub completions_differ : (token other_token : List ℕ) (cs es : List Command) (queries other_queries : List (List ℕ)) (sticky other_sticky : Option ℕ)
+  pub completions_differ : (token other_token : List ℕ) (cs es : List Command) (results other_results : Members) (sticky other_sticky : Option ℕ)
       (d : Data) → AreSent cs → AreSent es
-      → workflow_completed names token cs events queries sticky policies carried ≡ Ok d
-      → workflow_completed names other_token es events other_queries other_sticky policies carried ≡ Ok d
-      → (token ≡ other_token) × (cs ≡ es)
-  completions_differ token other_token cs es queries other_queries sticky other_sticky d sent other is other_is =
-      let one = completion_back token cs queries sticky d sent is in
-      let two = completion_back other_token es other_queries other_sticky d other other_is in (
+      → workflow_completed names token cs events results sticky policies carried ≡ Ok d
+      → workflow_completed names other_token es events other_results other_sticky policies carried ≡ Ok d
+      → (token ≡ other_token) × (cs ≡ es) × (results ≡ other_results)
+  completions_differ token other_token cs es results other_results sticky other_sticky d sent other is other_is =
+      let one = completion_back token cs results sticky d sent is in
+      let two = completion_back other_token es other_results other_sticky d other other_is in (
         some_same token other_token (sym one.0 ∙ two.0),
         somes_same cs es (some_same (map Some cs) (map Some es) (sym one.1 ∙ two.1)),
+        some_same results other_results (sym one.2 ∙ two.2),
       )
 
 -- ---- Failures and results

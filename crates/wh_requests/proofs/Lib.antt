@@ -1,3 +1,4 @@
 pub mod Answering
 pub mod ServerReading
 pub mod Heartbeating
+pub mod Results

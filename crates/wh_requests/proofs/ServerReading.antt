@@ -1,22 +1,12 @@
 -- Reading a request by the names of its fields yields what was written.
-use Rattle.std.proofs.Common.{◌≡◌, ℕ, List, [], ◌∷◌, map, codes, Bool, true, false, Option, Some, None, Result, Ok, Err, refl, sym, ap, subst, ◌∙◌}
-use Rattle.serde_json.specs.Data.{Data, Members, no_members, put}
-use Rattle.serde_json.specs.Find.{get_member}
-use Rattle.serde_json.proofs.Views.{get_member-put, get_member-put_other}
-use Rattle.std.proofs.lemmas.Bool.{true≢false}
-use Rattle.std.proofs.lemmas.Slice.Eq.{bytes_eq-Decides}
-use Rattle.std.specs.List.{AllByRecursion}
-use Rattle.std.specs.Str.{bytes_eq}
+use Rattle.std.proofs.Common.{◌≡◌, ℕ, List, [], ◌∷◌, Bool, true, false, Option, Some, None, Result, Ok, Err, refl, ap, subst}
+use Rattle.serde_json.specs.Data.{Data, Members, no_members, member}
 use Rattle.wh_commands.specs.declared.fault.RequestFault.{RequestFault}
 use Rattle.wh_commands.specs.declared.names.WorkerNames.{WorkerNames}
 use Rattle.wh_commands.specs.Commands.{written, written_after}
-use Rattle.wh_commands.specs.Objects.{put_all}
-use Rattle.wh_commands.specs.Options.{◌>>=◌}
 use Rattle.wh_commands.specs.Policies.{info_of}
 use Rattle.wh_commands.specs.Outcome.{on_written}
-use Rattle.wh_commands.specs.ReadBack.{text_at}
 use Rattle.wh_requests.specs.Requests as requests
-use Rattle.wh_requests.specs.Requests.{query_refused}
 use Rattle.wh_requests.specs.ServerReads.{PollsAreRead, EndIsRead, HistoryIsRead, IsHistory, FailuresAreRead, IsActivityFailed, QueryFailedIsRead}
 use Rattle.wh_commands.specs.ServerReads.{Fits}
 use Rattle.wh_requests.specs.ServerReads.{IsCompletion, CompletionIsRead, sticky}
@@ -64,62 +54,32 @@ query_failed_read names token message = record { namespace = refl; task = refl; 
 
 -- ---- Completions
 
-each : (P Q : List ℕ → Type 0) → ((query : List ℕ) → P query → Q query) → (queries : List (List ℕ)) → AllByRecursion P queries → AllByRecursion Q queries
-each P Q step [] are = tt
-each P Q step (query ∷ queries) are = (step query are.0, each P Q step queries are.1)
-
-abbrev with_refused : List (List ℕ) → Members → Members
-with_refused queries members = put_all (map (λ query. (query, query_refused)) queries) members
-
--- a query that is refused is still refused when another one is
-kept : (query other : List ℕ) (members : Members) → get_member query members ≡ Some query_refused
-    → get_member query (put other query_refused members) ≡ Some query_refused
-kept query other members is = by (bytes_eq query other) refl
-  where
-    by : (b : Bool) → bytes_eq query other ≡ b → get_member query (put other query_refused members) ≡ Some query_refused
-    by true e =
-        let same = (bytes_eq-Decides query other).0 e in
-        ap (λ name. get_member query (put name query_refused members)) (sym same) ∙ get_member-put query query_refused members
-    by false e =
-        get_member-put_other query other query_refused members (λ same. true≢false (sym ((bytes_eq-Decides query other).1 same) ∙ e)) ∙ is
-
-stays : (query : List ℕ) (queries : List (List ℕ)) (members : Members) → get_member query members ≡ Some query_refused
-    → get_member query (with_refused queries members) ≡ Some query_refused
-stays query [] ms is = is
-stays query (other ∷ queries) ms is = stays query queries (put other query_refused ms) (kept query other ms is)
-
-all_refused : (queries : List (List ℕ)) (members : Members)
-    → AllByRecursion (λ query. get_member query (with_refused queries members) ≡ Some query_refused) queries
-all_refused [] ms = tt
-all_refused (query ∷ queries) ms =
-    (stays query queries (put query query_refused ms) (get_member-put query query_refused ms), all_refused queries (put query query_refused ms))
-
-completed_read : (names : WorkerNames) (token : List ℕ) (queries : List (List ℕ)) (timeout : Option ℕ) (ds : List Data) → Fits timeout
-    → IsCompletion names token queries timeout (requests.completed_with names token queries timeout ds)
-completed_read names token queries None ds fits = record {
-  answer = record { namespace = refl; identity = refl; task = refl };
-  kept = refl;
-  refused = each (λ query. get_member query (with_refused queries no_members) ≡ Some query_refused) _
-      (λ query is. record { kind = ap (λ found. found >>= text_at (codes "resultType")) is; reason = ap (λ found. found >>= text_at (codes "errorMessage")) is })
-      queries (all_refused queries no_members);
-}
-completed_read names token queries (Some seconds) ds fits = record {
+completed_read : (names : WorkerNames) (token : List ℕ) (results : Members) (timeout : Option ℕ) (ds : List Data) → Fits timeout
+    → IsCompletion names token results timeout (requests.completed_with names token results timeout ds)
+completed_read names token no_members None ds fits =
+    record { answer = record { namespace = refl; identity = refl; task = refl }; kept = refl; answered = refl }
+completed_read names token (member id result results) None ds fits =
+    record { answer = record { namespace = refl; identity = refl; task = refl }; kept = refl; answered = refl }
+completed_read names token no_members (Some seconds) ds fits = record {
   answer = record { namespace = refl; identity = refl; task = refl };
   kept = ap (λ n. Some (record { queue = sticky names; seconds = n })) (seconds_of-duration seconds (fits seconds refl));
-  refused = each (λ query. get_member query (with_refused queries no_members) ≡ Some query_refused) _
-      (λ query is. record { kind = ap (λ found. found >>= text_at (codes "resultType")) is; reason = ap (λ found. found >>= text_at (codes "errorMessage")) is })
-      queries (all_refused queries no_members);
+  answered = refl;
+}
+completed_read names token (member id result results) (Some seconds) ds fits = record {
+  answer = record { namespace = refl; identity = refl; task = refl };
+  kept = ap (λ n. Some (record { queue = sticky names; seconds = n })) (seconds_of-duration seconds (fits seconds refl));
+  answered = refl;
 }
 
 written_same : {A : Type 0} (r : Result A RequestFault) (a b : A) → r ≡ Ok a → r ≡ Ok b → a ≡ b
 written_same r a b e f = cc
 
 pub completion_read : CompletionIsRead
-completion_read names token cs events queries timeout policies carried d fits is = by (written_after (written names policies carried events) [] cs) is
+completion_read names token cs events results timeout policies carried d fits is = by (written_after (written names policies carried events) [] cs) is
   where
-    by : (r : Result (List Data) RequestFault) → on_written r (λ ds. Ok (requests.completed_with names token queries timeout ds)) ≡ Ok d
-        → IsCompletion names token queries timeout d
+    by : (r : Result (List Data) RequestFault) → on_written r (λ ds. Ok (requests.completed_with names token results timeout ds)) ≡ Ok d
+        → IsCompletion names token results timeout d
     by (Err fault) e = cc
     by (Ok ds) e =
-        let whole = requests.completed_with names token queries timeout ds in
-        subst (IsCompletion names token queries timeout) (written_same (Ok whole) whole d refl e) (completed_read names token queries timeout ds fits)
+        let whole = requests.completed_with names token results timeout ds in
+        subst (IsCompletion names token results timeout) (written_same (Ok whole) whole d refl e) (completed_read names token results timeout ds fits)

@@ -1,6 +1,6 @@
 -- No two different answers are written alike.
 use Rattle.std.specs.Prelude.{◌≡◌, ◌≢◌, ℕ, Bool, List, [], ◌∷◌, Option, Ok, ⊤}
-use Rattle.serde_json.specs.Data.{Data}
+use Rattle.serde_json.specs.Data.{Data, Members}
 use Rattle.wh_events.specs.declared.event.Event.{Event}
 use Rattle.wh_events.specs.declared.event.Payload.{Payload}
 use Rattle.wh_workflow.specs.declared.command.Command.{Command}
@@ -16,15 +16,15 @@ abbrev pub AreSent : List Command → Type 0
 AreSent [] = ⊤
 AreSent (command ∷ commands) = IsSent command × AreSent commands
 
--- two completions that are written alike have one token and the same commands
+-- two completions that are written alike have one token, the same commands and the same results of queries
 abbrev pub CompletionsDiffer : Type 0
 CompletionsDiffer = (names : WorkerNames) (policies : Policies) (carried : Carried) (events : List Event)
     (token other_token : List ℕ) (cs es : List Command)
-    (queries other_queries : List (List ℕ)) (sticky other_sticky : Option ℕ)
+    (results other_results : Members) (sticky other_sticky : Option ℕ)
     (d : Data) → IsHistory events → AreSent cs → AreSent es
-    → workflow_completed names token cs events queries sticky policies carried ≡ Ok d
-    → workflow_completed names other_token es events other_queries other_sticky policies carried ≡ Ok d
-    → (token ≡ other_token) × (cs ≡ es)
+    → workflow_completed names token cs events results sticky policies carried ≡ Ok d
+    → workflow_completed names other_token es events other_results other_sticky policies carried ≡ Ok d
+    → (token ≡ other_token) × (cs ≡ es) × (results ≡ other_results)
 
 -- two failures of workflow tasks that are written alike are the same
 abbrev pub FailuresDiffer : Type 0

@@ -1,6 +1,6 @@
 -- How requests are written.
-use Rattle.std.specs.Prelude.{ℕ, List, [], ◌∷◌, codes, map, Bool, true, false, Option, Some, None, Result, Ok}
-use Rattle.serde_json.specs.Data.{Data, string, array, object, Members, no_members, put}
+use Rattle.std.specs.Prelude.{ℕ, List, [], ◌∷◌, codes, Bool, true, false, Option, Some, None, Result, Ok}
+use Rattle.serde_json.specs.Data.{Data, string, array, object, Members, no_members, member, put}
 use Rattle.serde_json.specs.View.{items_of}
 use Rattle.wh_events.specs.declared.event.Event.{Event}
 use Rattle.wh_events.specs.declared.event.Payload.{Payload}
@@ -73,18 +73,14 @@ sticky_attributes names timeout = object_of (
     (codes "workerTaskQueue", sticky_queue names)
     ∷ (codes "scheduleToStartTimeout", string (duration_text timeout)) ∷ [])
 
--- the error message for a query of a workflow
+-- the error message for a query that came alone, where nothing answers queries
 abbrev pub no_queries : List ℕ
 no_queries = codes "this worker answers no queries"
 
--- a query that is not answered
-abbrev pub query_refused : Data
-query_refused = object_of (
-    (codes "resultType", string (codes "QUERY_RESULT_TYPE_FAILED")) ∷ (codes "errorMessage", string no_queries) ∷ [])
-
--- the results of queries, none of which is answered
-abbrev pub queries_refused : List (List ℕ) → Data
-queries_refused queries = object (put_all (map (λ query. (query, query_refused)) queries) no_members)
+-- the members, with the results of queries, if there are any
+abbrev pub with_results : Members → Members → Members
+with_results no_members members = members
+with_results (member id result results) members = put (codes "queryResults") (object (member id result results)) members
 
 -- the members, with the sticky queue, if the run is kept in it
 abbrev pub with_sticky : WorkerNames → Option ℕ → Members → Members
@@ -92,17 +88,17 @@ with_sticky names None members = members
 with_sticky names (Some timeout) members = put (codes "stickyAttributes") (sticky_attributes names timeout) members
 
 -- a workflow task, completed with written commands
-abbrev pub completed_with : WorkerNames → List ℕ → List (List ℕ) → Option ℕ → List Data → Data
-completed_with names token queries sticky commands = object (with_sticky names sticky (put_all (
-    (codes "commands", array (items_of commands)) ∷ (codes "queryResults", queries_refused queries) ∷ [])
-    (answer_of names token)))
+abbrev pub completed_with : WorkerNames → List ℕ → Members → Option ℕ → List Data → Data
+completed_with names token results sticky commands = object (with_sticky names sticky (with_results results (put_all (
+    (codes "commands", array (items_of commands)) ∷ []) (answer_of names token))))
 
--- a workflow task, completed with commands; or the fault of the first command that can't be written
+-- a workflow task, completed with commands and the results of queries; or the fault of the first command that can't be
+-- written
 abbrev pub workflow_completed : WorkerNames → List ℕ → List Command → List Event
-    → List (List ℕ) → Option ℕ → Policies → Carried → Result Data RequestFault
-workflow_completed names token commands events queries sticky policies carried =
+    → Members → Option ℕ → Policies → Carried → Result Data RequestFault
+workflow_completed names token commands events results sticky policies carried =
     on_written (written_after (written names policies carried events) [] commands)
-    (λ values. Ok (completed_with names token queries sticky values))
+    (λ values. Ok (completed_with names token results sticky values))
 
 abbrev pub cause_name : FailedCause → List ℕ
 cause_name Nondeterministic = codes "WORKFLOW_TASK_FAILED_CAUSE_NON_DETERMINISTIC_ERROR"

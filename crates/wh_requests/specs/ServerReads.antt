@@ -1,8 +1,7 @@
 -- What a server reads from requests, by the names of their fields.
 use Rattle.std.specs.Prelude.{◌≡◌, ℕ, Bool, List, codes, Option, Some, None, Ok, option_map, true, false, if◌then◌else◌}
-use Rattle.std.specs.List.{AllByRecursion}
-use Rattle.serde_json.specs.Data.{Data}
-use Rattle.serde_json.specs.Find.{as_bool, get}
+use Rattle.serde_json.specs.Data.{Data, Members, no_members}
+use Rattle.serde_json.specs.Find.{as_bool, as_object, get}
 use Rattle.wh_events.specs.declared.event.Event.{Event}
 use Rattle.wh_events.specs.declared.event.Payload.{Payload}
 use Rattle.wh_workflow.specs.declared.command.Command.{Command}
@@ -85,27 +84,28 @@ sticky_in d = do
   seconds ← seconds_at (codes "scheduleToStartTimeout") attributes
   Some (record { queue = queue; seconds = seconds })
 
--- a query that came with a task is answered as failed, with the reason
-pub record IsRefused (query : List ℕ) (d : Data) : Type 0 where
-  pub kind : (get (codes "queryResults") d >>= get query >>= text_at (codes "resultType"))
-      ≡ Some (codes "QUERY_RESULT_TYPE_FAILED")
-  pub reason : (get (codes "queryResults") d >>= get query >>= text_at (codes "errorMessage"))
-      ≡ Some requests.no_queries
+-- the results of the queries that came with a task, none if the member is missing
+abbrev pub results_of : Option Data → Option Members
+results_of None = Some no_members
+results_of (Some d) = as_object d
 
--- a completion names the worker and the task, the process's own queue exactly if the run is kept in it, and each query
--- that came with the task
-pub record IsCompletion (names : WorkerNames) (token : List ℕ) (queries : List (List ℕ))
+abbrev pub results_in : Data → Option Members
+results_in d = results_of (get (codes "queryResults") d)
+
+-- a completion names the worker and the task, the process's own queue exactly if the run is kept in it, and has the
+-- results of queries and no others
+pub record IsCompletion (names : WorkerNames) (token : List ℕ) (results : Members)
     (timeout : Option ℕ) (d : Data) : Type 0 where
   pub answer : IsAnswer names token d
   pub kept : sticky_in d ≡ option_map (λ seconds. record { queue = sticky names; seconds = seconds }) timeout
-  pub refused : AllByRecursion (λ query. IsRefused query d) queries
+  pub answered : results_in d ≡ Some results
 
 abbrev pub CompletionIsRead : Type 0
 CompletionIsRead = (names : WorkerNames) (token : List ℕ) (cs : List Command) (events : List Event)
-    (queries : List (List ℕ))
+    (results : Members)
     (timeout : Option ℕ) (policies : Policies) (carried : Carried) (d : Data) → Fits timeout
-    → requests.workflow_completed names token cs events queries timeout policies carried ≡ Ok d
-    → IsCompletion names token queries timeout d
+    → requests.workflow_completed names token cs events results timeout policies carried ≡ Ok d
+    → IsCompletion names token results timeout d
 
 -- a failed activity has its message, its type, if it has one, and the mark exactly if it is not retried
 pub record IsActivityFailed (message : List ℕ) (failure_type : Option (List ℕ)) (retryable : Bool)

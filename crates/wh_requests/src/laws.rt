@@ -5,8 +5,8 @@ ghost use Rattle.wh_requests.specs.Heartbeats.{CanceledIsApart, HeartbeatsAreRea
 ghost use Rattle.wh_requests.specs.ServerReads.{CompletionIsRead, EndIsRead, FailuresAreRead};
 ghost use Rattle.wh_requests.specs.ServerReads.{HistoryIsRead, PollsAreRead, QueryFailedIsRead};
 
-/// No two completions of workflow tasks with different tokens or commands are written alike, and no
-/// two different failures are.
+/// No two completions of workflow tasks with different tokens, commands or results of queries are
+/// written alike, and no two different failures are.
 pub fn workflow_answers_are_apart()
     ensures completed { CompletionsDiffer }
     ensures failed { FailuresDiffer }
@@ -30,8 +30,8 @@ pub fn requests_are_read()
 {}
 
 /// What a server reads from an answer: who sends it, for which task, whether the run is kept for
-/// the process's own queue and for how long, that no query is answered, and of a failed activity
-/// why it failed, the failure's type, and whether it may be retried.
+/// the process's own queue and for how long, the results of queries, and of a failed activity why
+/// it failed, the failure's type, and whether it may be retried.
 pub fn answers_are_read()
     ensures completed { CompletionIsRead }
     ensures others { FailuresAreRead }

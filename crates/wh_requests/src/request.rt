@@ -186,26 +186,18 @@ fn put_sticky(
     put(members, alloc, "stickyAttributes", attributes)
 }
 
-/// The error message for a query of a workflow, whether it came alone or with a task.
+/// The error message for a query that came alone, where nothing answers queries.
 pub const NO_QUERIES: &str = "this worker answers no queries";
 
-/// Writes the result of a query that is not answered.
-fn query_refused(alloc: Global) -> Result<Value, AllocError>
-    ensures { IfOk result (λ refused. view refused ≡ spec.query_refused) }
+/// Adds the results of queries, if there are any.
+fn put_results(members: &mut Members, alloc: Global, results: Members) -> Result<(), AllocError>
+    ensures { OnOk result (members_view members.new.entries
+        ≡ spec.with_results (members_view results.entries) (members_view members.old.entries)) }
 {
-    json!(in alloc; {"resultType": "QUERY_RESULT_TYPE_FAILED", "errorMessage": NO_QUERIES})
-}
-
-/// Writes the results of the queries, none of which is answered.
-fn queries_refused(alloc: Global, queries: &[Text]) -> Result<Value, AllocError>
-    ensures { IfOk result (λ refused. view refused ≡ spec.queries_refused queries.now) }
-{
-    let mut results = Map::new(alloc);
-    for query in queries {
-        let refused = query_refused(alloc)?;
-        put(&mut results, alloc, query.get(), refused)?;
+    if results.is_empty() {
+        return Ok(());
     }
-    Ok(Value::Object(results))
+    put(members, alloc, "queryResults", Value::Object(results))
 }
 
 /// Writes the completion of a workflow task with written commands.
@@ -213,30 +205,25 @@ fn completed_with(
     alloc: Global,
     names: &WorkerNames,
     token: &str,
-    queries: &[Text],
+    results: Members,
     sticky: Option<u32>,
     commands: Vec<Value>,
 ) -> Result<Value, AllocError>
-    ensures { IfOk result (λ params. view params
-        ≡ spec.completed_with names.now token.now queries.now sticky (map view commands.items)) }
+    ensures { IfOk result (λ params. view params ≡ spec.completed_with names.now token.now
+        (members_view results.entries) sticky (map view commands.items)) }
 {
     let mut members = answer_of(alloc, names, token)?;
     put(&mut members, alloc, "commands", Value::Array(commands))?;
-    put(
-        &mut members,
-        alloc,
-        "queryResults",
-        queries_refused(alloc, queries)?,
-    )?;
+    put_results(&mut members, alloc, results)?;
     put_sticky(&mut members, alloc, names, sticky)?;
     Ok(Value::Object(members))
 }
 
 /// Writes the request of `RespondWorkflowTaskCompleted`, with the commands, after these events of
-/// the history, and the names of the queries that came with the task, none of which is answered. If
-/// `sticky` is a number of seconds, the run is kept for its next task, which waits that long in the
-/// sticky queue. What the run carries over is only used in a Continue-As-New. The options of a
-/// command are those of the policy of its name.
+/// the history, and the results of the queries that came with the task, each under its query's id
+/// (Temporal's `WorkflowQueryResult`). If `sticky` is a number of seconds, the run is kept for its
+/// next task, which waits that long in the sticky queue. What the run carries over is only used in a
+/// Continue-As-New. The options of a command are those of the policy of its name.
 ///
 /// The error is that of the first command that can't be written: `TooLong` for a timer,
 /// `NotScheduled` for the cancellation of an activity, `NeverSent` for an `Ask`. `OutOfMemory` can
@@ -247,17 +234,17 @@ pub fn workflow_completed(
     token: &str,
     commands: &[Command],
     events: &[Event],
-    queries: &[Text],
+    results: Members,
     sticky: Option<u32>,
     policies: &Policies,
     carried: &CarriedOver,
 ) -> Result<Value, RequestFault>
     ensures { Writes result
-        (spec.workflow_completed names.now token.now commands.now events.now queries.now sticky policies.now
-        (carried_seen carried.now)) }
+        (spec.workflow_completed names.now token.now commands.now events.now (members_view results.entries)
+        sticky policies.now (carried_seen carried.now)) }
 {
     let commands = commands_value(alloc, names, policies, carried, events, commands)?;
-    let params = completed_with(alloc, names, token, queries, sticky, commands)?;
+    let params = completed_with(alloc, names, token, results, sticky, commands)?;
     Ok(params)
 }
 

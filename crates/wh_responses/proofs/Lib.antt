@@ -1,4 +1,3 @@
 pub mod Digits
-pub mod Lists
 pub mod Tasks
 pub mod Serving

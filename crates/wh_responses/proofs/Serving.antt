@@ -1,14 +1,14 @@
 -- What a server writes is read as it was written.
 use Rattle.std.proofs.Common.{◌≡◌, ◌≢◌, ℕ, ◌<◌, ◌^◌, List, [], ◌∷◌, codes, Option, Some, None, max, refl, ap, sym, arith, IfSome, lt-ltb}
 use Rattle.std.specs.Result.{result_ok}
-use Rattle.serde_json.specs.Data.{Data, number, unsigned, Members}
+use Rattle.serde_json.specs.Data.{Data, number, unsigned}
 use Rattle.wh_events.specs.declared.event.Payload.{Payload}
 use Rattle.wh_events.specs.declared.key.RunKey.{RunKey}
 use Rattle.wh_json.specs.Fields.{field, list_in, number_of}
 use Rattle.wh_responses.specs.declared.response.ActivityPoll.TheVariants as activity
 use Rattle.wh_responses.specs.declared.response.PolledActivity.{PolledActivity}
 use Rattle.wh_commands.specs.ReadBack.{HaveBytes}
-use Rattle.wh_responses.specs.Responses.{Page, Task, task, names_of, page_in, run_in, task_in, activity_in, activity_type, info_in, query_or_task, poll_of_token, activity_of_token, workflow_poll, activity_poll}
+use Rattle.wh_responses.specs.Responses.{Page, Task, task, page_in, run_in, task_in, activity_in, activity_type, info_in, query_or_task, poll_of_token, activity_of_token, workflow_poll, activity_poll}
 use Rattle.wh_responses.specs.Served.{IsNamed, IsTold, page_result, run_result, task_result, activity_result, activity_with}
 use Rattle.wh_responses.proofs.Tasks.{activity_made, info_made}
 use Rattle.wh_commands.proofs.Lists.{list_back}
@@ -26,22 +26,21 @@ pub page_back : (page : Page) → page_in (page_result page) ≡ Some page
 unfolding page_in field list_in
 page_back page = rw (list_back page.members) refl
 
-task_back : (polled : Task) (queries : Members) → IsNamed polled.run → polled.attempt < 2 ^ 63 → names_of queries ≡ polled.queries
-    → task_in polled.token (task_result polled queries) ≡ Some polled
+task_back : (polled : Task) → IsNamed polled.run → polled.attempt < 2 ^ 63 → task_in polled.token (task_result polled) ≡ Some polled
 unfolding task_in page_in field list_in
-task_back polled queries run attempt names =
-    rw (number_back polled.attempt attempt, run_back polled.run run, names, list_back polled.members) refl
+task_back polled run attempt =
+    rw (number_back polled.attempt attempt, run_back polled.run run, list_back polled.members) refl
 
 token_there : (token : List ℕ) (d : Data) (polled : Task) → token ≢ [] → query_or_task token d (field (codes "query") (Some d)) ≡ task polled
     → poll_of_token d (Some token) ≡ task polled
 token_there [] d polled some is = absurd (some refl)
 token_there (c ∷ cs) d polled some is = is
 
-pub task_is_read : (polled : Task) (queries : Members) → polled.token ≢ [] → IsNamed polled.run → polled.attempt < 2 ^ 63
-    → names_of queries ≡ polled.queries → workflow_poll (task_result polled queries) ≡ task polled
+pub task_is_read : (polled : Task) → polled.token ≢ [] → IsNamed polled.run → polled.attempt < 2 ^ 63
+    → workflow_poll (task_result polled) ≡ task polled
 unfolding field
-task_is_read polled queries token run attempt names =
-    token_there polled.token (task_result polled queries) polled token (rw (task_back polled queries run attempt names) refl)
+task_is_read polled token run attempt =
+    token_there polled.token (task_result polled) polled token (rw (task_back polled run attempt) refl)
 
 activity_token : (token : List ℕ) (d : Data) (polled : PolledActivity) → token ≢ [] → activity_in token d ≡ Some polled
     → activity_of_token d (Some token) ≡ activity.Task polled

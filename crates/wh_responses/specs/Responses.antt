@@ -1,9 +1,9 @@
 -- What responses mean.
 use Rattle.std.specs.Prelude.{ℕ, List, [], ◌∷◌, codes, map, max, Option, Some, None, option_map}
 use Rattle.std.specs.Result.{result_ok}
-use Rattle.serde_json.specs.Data.{Data, Members, no_members, member}
+use Rattle.serde_json.specs.Data.{Data, Members, no_members}
 use Rattle.serde_json.specs.Find.{as_object}
-use Rattle.serde_json.specs.View.{view}
+use Rattle.serde_json.specs.View.{members_view, view}
 use Rattle.wh_events.specs.declared.event.Payload.{Payload}
 use Rattle.wh_events.specs.declared.key.RunKey.{RunKey}
 use Rattle.wh_heartbeat.specs.declared.activity_info.ActivityInfo.{ActivityInfo}
@@ -33,14 +33,10 @@ abbrev pub number_or_one : Option Data → Option ℕ
 number_or_one None = Some 1
 number_or_one (Some d) = number_of d
 
-abbrev pub names_of : Members → List (List ℕ)
-names_of no_members = []
-names_of (member name d ms) = name ∷ names_of ms
-
--- the names of an object's members, none if it is missing
-abbrev pub names_in : Option Data → Option (List (List ℕ))
-names_in None = Some []
-names_in (Some d) = option_map names_of (as_object d)
+-- the members of an object, none if it is missing
+abbrev pub members_or_none : Option Data → Option Members
+members_or_none None = Some no_members
+members_or_none (Some d) = as_object d
 
 -- the Task Token, empty if it is missing
 abbrev pub token_in : Data → Option (List ℕ)
@@ -84,14 +80,14 @@ page_in d = do
 
 -- ---- Workflow tasks
 
--- a task, with its events as data
+-- a task, with its events and queries as data
 pub record Task : Type 0 where
   pub token : List ℕ
   pub run : RunKey
   pub attempt : ℕ
   pub members : List Data
   pub next_page : List ℕ
-  pub queries : List (List ℕ)
+  pub queries : Members
 
 abbrev pub task_seen : PolledTask → Task
 task_seen task = record {
@@ -100,7 +96,7 @@ task_seen task = record {
   attempt = task.attempt;
   members = map view task.members.items;
   next_page = task.next_page;
-  queries = task.queries.items;
+  queries = members_view task.queries.entries;
 }
 
 -- the response to a poll
@@ -121,7 +117,7 @@ unfoldable pub task_in : List ℕ → Data → Option Task
 task_in token d = do
   attempt ← number_or_one (field (codes "attempt") (Some d))
   run ← run_in (field (codes "workflowExecution") (Some d))
-  queries ← names_in (field (codes "queries") (Some d))
+  queries ← members_or_none (field (codes "queries") (Some d))
   page ← page_in d
   Some (record {
     token = token;

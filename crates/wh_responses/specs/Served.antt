@@ -1,6 +1,6 @@
 -- The tasks and pages that a server writes, and what they are read as.
 use Rattle.std.specs.Prelude.{◌≡◌, ◌≢◌, ◌<◌, ◌^◌, ℕ, List, [], ◌∷◌, codes, Option, Some, None, IfSome}
-use Rattle.serde_json.specs.Data.{Data, number, string, array, object, unsigned, Members}
+use Rattle.serde_json.specs.Data.{Data, number, string, array, object, unsigned}
 use Rattle.serde_json.specs.View.{items_of}
 use Rattle.wh_events.specs.declared.event.Payload.{Payload}
 use Rattle.wh_events.specs.declared.key.RunKey.{RunKey}
@@ -12,7 +12,7 @@ use Rattle.wh_commands.specs.Commands.{named}
 use Rattle.wh_commands.specs.Objects.{object_of}
 use Rattle.wh_commands.specs.Payloads.{payloads_written}
 use Rattle.wh_commands.specs.ReadBack.{HaveBytes}
-use Rattle.wh_responses.specs.Responses.{Page, Task, nothing, task, names_of, page_in, workflow_poll, activity_poll}
+use Rattle.wh_responses.specs.Responses.{Page, Task, nothing, task, page_in, workflow_poll, activity_poll}
 
 -- the list of events of a history
 abbrev pub history_of : List Data → Data
@@ -27,11 +27,11 @@ abbrev pub run_result : RunKey → Data
 run_result run = object_of ((codes "workflowId", string run.workflow_id) ∷ (codes "runId", string run.run_id) ∷ [])
 
 -- a workflow task, with the queries beside it
-abbrev pub task_result : Task → Members → Data
-task_result polled queries = object_of (
+abbrev pub task_result : Task → Data
+task_result polled = object_of (
     (codes "taskToken", string polled.token) ∷ (codes "workflowExecution", run_result polled.run)
     ∷ (codes "attempt", number (unsigned polled.attempt)) ∷ (codes "history", history_of polled.members)
-    ∷ (codes "nextPageToken", string polled.next_page) ∷ (codes "queries", object queries) ∷ [])
+    ∷ (codes "nextPageToken", string polled.next_page) ∷ (codes "queries", object polled.queries) ∷ [])
 
 -- the details of a heartbeat, if there are any
 abbrev pub details_result : Option (List Payload) → List (List ℕ × Data)
@@ -60,8 +60,8 @@ PageIsRead = (page : Page) → page_in (page_result page) ≡ Some page
 
 -- a workflow task is read as it was written: under its own token, with its own run, events and queries
 abbrev pub TaskIsRead : Type 0
-TaskIsRead = (polled : Task) (queries : Members) → polled.token ≢ [] → IsNamed polled.run → polled.attempt < 2 ^ 63
-    → names_of queries ≡ polled.queries → workflow_poll (task_result polled queries) ≡ task polled
+TaskIsRead = (polled : Task) → polled.token ≢ [] → IsNamed polled.run → polled.attempt < 2 ^ 63
+    → workflow_poll (task_result polled) ≡ task polled
 
 -- what is known of an attempt: its number is from 1 to 2^63 - 1, the details have bytes, and no time is told
 pub record IsTold (info : ActivityInfo) : Type 0 where

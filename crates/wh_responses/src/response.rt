@@ -2,7 +2,7 @@
 
 ghost use Rattle.std.specs.Prelude.{◌≡◌, IfOk, IfErr, map, option_map, codes, Some, None, Option};
 ghost use Rattle.std.specs.Result.{result_ok};
-ghost use Rattle.serde_json.specs.Find.{get};
+ghost use Rattle.serde_json.specs.Find.{as_object, get};
 ghost use Rattle.serde_json.specs.View.{view, members_view};
 ghost use Rattle.wh_json.specs.Fields.{field, list_in, unless_null};
 ghost use Rattle.wh_json.specs.Payloads.{payloads_at};
@@ -13,6 +13,7 @@ ghost use Rattle.wh_responses.specs.Responses.{page_seen, poll_seen, task_seen};
 use crate::times::times_in;
 use serde_json::{Map, Value};
 use std::alloc::Global;
+use wh_commands::Members;
 use wh_events::{Items, OutOfMemory, Payload, RunKey, Text};
 use wh_heartbeat::ActivityInfo;
 use wh_json::{ReadFault, field, number_of, payloads_at, text_of};
@@ -40,8 +41,8 @@ pub struct PolledTask {
     pub members: Vec<Value>,
     /// The token of the page with the events that follow, empty if there are none.
     pub next_page: Text,
-    /// The names of the queries that came with it.
-    pub queries: Vec<Text>,
+    /// The queries that came with it, each under its id: a `WorkflowQuery` in its JSON form.
+    pub queries: Members,
 }
 
 /// A query that came alone, as a poll returns it.
@@ -228,30 +229,25 @@ fn number_or_one(value: Option<&Value>) -> Option<u64>
     }
 }
 
-/// Copies the names of an object's members.
-#[tactic(auto, using(crate::proofs::Lists::names_of_view))]
-fn names_of(alloc: Global, members: &Map<String, Value>) -> Result<Vec<Text>, OutOfMemory>
-    ensures { IfOk result (λ names. names.items ≡ spec.names_of (members_view members.now.entries)) }
+/// Returns the members of an object.
+fn into_members(value: Value) -> Option<Members>
+    ensures { option_map (λ members. members_view members.entries) result ≡ as_object (view value) }
 {
-    let mut names = Vec::new(alloc);
-    for name in members.keys() {
-        names.push(Text::new(name.clone()?))?;
+    match value {
+        Value::Object(members) => Some(members),
+        _ => None,
     }
-    Ok(names)
 }
 
-/// Copies the names of an object's members, none if it is missing.
-fn names_in(alloc: Global, value: Option<&Value>) -> Result<Option<Vec<Text>>, OutOfMemory>
-    ensures { IfOk result (λ names. option_map (λ names. names.items) names
-        ≡ spec.names_in (option_map (λ v. view v.now) value.entry)) }
+/// Copies the members of an object, none if it is missing.
+fn copied_members(alloc: Global, value: Option<&Value>) -> Result<Option<Members>, OutOfMemory>
+    ensures { IfOk result (λ copied. option_map (λ members. members_view members.entries) copied
+        ≡ spec.members_or_none (option_map (λ v. view v.now) value.entry)) }
 {
-    let Some(value) = value else {
-        return Ok(Some(Vec::new(alloc)));
-    };
-    let Some(members) = value.as_object() else {
-        return Ok(None);
-    };
-    Ok(Some(names_of(alloc, members)?))
+    match value {
+        None => Ok(Some(Map::new(alloc))),
+        Some(value) => Ok(into_members(value.clone()?)),
+    }
 }
 
 /// Copies the Task Token, empty if it is missing.
@@ -275,7 +271,7 @@ fn task_in(alloc: Global, token: Text, value: Value) -> Result<Option<PolledTask
     let Some(run) = run_in(alloc, field(Some(&value), "workflowExecution"))? else {
         return Ok(None);
     };
-    let Some(queries) = names_in(alloc, field(Some(&value), "queries"))? else {
+    let Some(queries) = copied_members(alloc, field(Some(&value), "queries"))? else {
         return Ok(None);
     };
     let Some(page) = page_in(alloc, value)? else {

@@ -35,7 +35,8 @@ fn digits_in(text: &str) -> Option<u64>
 }
 
 /// Returns the point in time that a text in the form of RFC 3339 denotes, in milliseconds since
-/// 1970-01-01T00:00:00Z, rounded down. `None` for any other text, and for a time before that.
+/// 1970-01-01T00:00:00Z, rounded down. `None` for a text that `jiff` can't read as one, and for a
+/// time a millisecond or more before that.
 #[tactic(auto, unfolding(wh_json::specs::Fields::time_of))]
 fn instant_of(text: &str) -> Option<u64>
     ensures { result ≡ spec.instant_of text.now }
@@ -104,7 +105,8 @@ fn in_milliseconds(seconds: u64, parts: u64) -> Option<u64>
 
 /// Returns the length of time that a text denotes, in milliseconds, rounded down: a number of
 /// seconds, perhaps a point and 3, 6 or 9 further digits, and the unit `s`, as proto3 JSON writes a
-/// duration. `None` for any other text, also for a negative duration.
+/// duration. `None` for any other text, also for a negative duration; but the unit, and what stands
+/// behind it, is not looked at.
 fn duration_of(text: &str) -> Option<u64>
     ensures { result ≡ spec.duration_of text.now }
 {
@@ -128,6 +130,21 @@ fn duration_at(value: &Value, name: &str) -> Option<u64>
     duration_of(field(Some(value), name)?.as_str()?)
 }
 
+/// Returns a timeout, unless it is 0, as a server writes one that is not set.
+fn unless_zero(timeout: u64) -> Option<u64>
+    ensures { result ≡ spec.unless_zero timeout }
+{
+    if timeout == 0 { None } else { Some(timeout) }
+}
+
+/// Returns the timeout that the member of a name is. `None` if there is no such member, or if it is
+/// 0.
+fn timeout_at(value: &Value, name: &str) -> Option<u64>
+    ensures { result ≡ spec.timeout_at name.now (view value.now) }
+{
+    unless_zero(duration_at(value, name)?)
+}
+
 /// Returns the times that a response to `PollActivityTaskQueue` tells of its task.
 pub(crate) fn times_in(value: &Value) -> ActivityTimes
     ensures { result ≡ spec.times_in (view value.now) }
@@ -136,8 +153,8 @@ pub(crate) fn times_in(value: &Value) -> ActivityTimes
         scheduled: instant_at(value, "scheduledTime"),
         attempt_scheduled: instant_at(value, "currentAttemptScheduledTime"),
         started: instant_at(value, "startedTime"),
-        heartbeat_timeout: duration_at(value, "heartbeatTimeout"),
-        start_to_close: duration_at(value, "startToCloseTimeout"),
-        schedule_to_close: duration_at(value, "scheduleToCloseTimeout"),
+        heartbeat_timeout: timeout_at(value, "heartbeatTimeout"),
+        start_to_close: timeout_at(value, "startToCloseTimeout"),
+        schedule_to_close: timeout_at(value, "scheduleToCloseTimeout"),
     }
 }

@@ -1,9 +1,10 @@
 -- Answers to tasks that the server did not take, and what counts of tasks are without them.
-use Rattle.std.specs.Prelude.{◌≡◌, ℕ, ◌+◌, ◌-◌, ◌≤◌, ◌<◌, ◌^◌, Bool, true, false}
+use Rattle.std.specs.Prelude.{◌≡◌, ℕ, ◌+◌, ◌-◌, ◌≤◌, ◌<◌, ◌^◌, Bool, true, false, Option, Some, None}
 use Rattle.wh_client.specs.declared.codes.Receipt.{Receipt}
 use Rattle.wh_client.specs.declared.codes.Receipt.TheVariants as receipt
 use Rattle.wh_host.specs.declared.reply.Totals.{Totals}
 use Rattle.wh_live.specs.Tallies.{together}
+use Rattle.wh_work.specs.declared.counted_calls.CallCount.{CallCount}
 use Rattle.wh_work.specs.declared.untaken.UntakenAnswers.{UntakenAnswers}
 
 -- there is none
@@ -27,6 +28,15 @@ with_untaken receipt.Invalid completes answers = record answers {
 }
 with_untaken receipt.Lost completes answers = record answers { lost = together answers.lost 1 }
 with_untaken _ completes answers = answers
+
+-- the same of an answer, if the server did not take it
+abbrev pub with_any : Option Receipt → (completes : Bool) → UntakenAnswers → UntakenAnswers
+with_any None completes answers = answers
+with_any (Some receipt) completes answers = with_untaken receipt completes answers
+
+-- the answer of a call more, if it is one that was not taken
+abbrev pub with_count : CallCount → UntakenAnswers → UntakenAnswers
+with_count count answers = with_any count.untaken count.completes answers
 
 -- those that were refused, or got no response
 abbrev pub refused_of : UntakenAnswers → ℕ

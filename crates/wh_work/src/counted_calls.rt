@@ -115,7 +115,8 @@ fn is_replaced(method: &str, response: &Result<(u64, Outcome), CallFault>) -> bo
     completes_workflow_task(method) && is_refused_as_too_large(response)
 }
 
-/// What became of an answer, if the server did not take it. One that got no response is lost.
+/// What became of an answer, if the server did not take it. One that got no response is lost,
+/// whatever the source of its task calls it.
 fn untaken(response: &Result<(u64, Outcome), CallFault>) -> Option<Receipt>
     ensures { IsUntaken response.now result }
 {
@@ -174,13 +175,13 @@ fn end_of(method: &str, response: &Result<(u64, Outcome), CallFault>) -> TaskEnd
 
 /// What is counted of a call.
 #[derive(Clone, Copy)]
-struct CallCount {
+pub(crate) struct CallCount {
     /// What becomes of the task that it answers.
     end: TaskEnd,
     /// What became of the answer, if the server did not take it.
-    untaken: Option<Receipt>,
+    pub(crate) untaken: Option<Receipt>,
     /// Whether it completes its task.
-    completes: bool,
+    pub(crate) completes: bool,
 }
 
 /// What is counted of a call of this method, by what was responded to it.
@@ -216,9 +217,7 @@ impl<C: Caller, R: Wait + Clock> CountedCalls<'_, C, R> {
 
     /// Counts a call, which answers the task that was noted, if there is one.
     fn add_call<Q: Wait>(&self, rt: &Q, begun: Option<BegunTask>, count: CallCount) {
-        if let Some(receipt) = count.untaken {
-            self.answers.add(rt, receipt, count.completes);
-        }
+        self.answers.add(rt, count);
         if let (Some(progress), Some(task)) = (self.progress, begun) {
             progress.end_task(count.end, task);
         }

@@ -127,6 +127,15 @@ impl<R: Wait + Clock> Progress<'_, R> {
         let now = microseconds(self.rt);
         self.counted.lock(self.rt).end_task(end, task, now);
     }
+
+    /// What is to be reported now. No turn is counted while the answers are read, so each answer
+    /// whose turn counts is among them.
+    fn report_now(&self, counts: Option<Counts>) -> Report {
+        let now = milliseconds(self.rt);
+        let mut counted = self.counted.lock(self.rt);
+        let answers = self.answers.now(self.rt);
+        counted.turns.report(now, answers, counts)
+    }
 }
 
 impl<R: Wait> Progress<'_, R> {
@@ -201,13 +210,7 @@ impl<R: Wait + Clock + Eprint + FileReplacer + AllocGlobal> Companion for Progre
 
     /// Writes a line on standard error, and keeps the counts.
     fn report(&self, counts: Option<Counts>) {
-        let now = milliseconds(self.rt);
-        let answers = self.answers.now(self.rt);
-        let report = self
-            .counted
-            .lock(self.rt)
-            .turns
-            .report(now, answers, counts);
+        let report = self.report_now(counts);
         if let Some(format) = self.lines {
             self.tell(format, report);
         }

@@ -2,8 +2,9 @@
 
 ghost use Rattle.std.specs.Prelude.{◌≡◌};
 ghost use Rattle.wh_work.specs.Untaken.{completed_of, failed_of, failures_of, none_untaken, refused_of, settled};
-ghost use Rattle.wh_work.specs.Untaken.{with_completion, with_untaken};
+ghost use Rattle.wh_work.specs.Untaken.{with_completion, with_count, with_untaken};
 
+use crate::counted_calls::CallCount;
 use std::sync::{Mutex, Wait};
 use wh_client::Receipt;
 use wh_host::Totals;
@@ -14,12 +15,15 @@ use wh_host::Totals;
 pub struct UntakenAnswers {
     /// Those whose task the server no longer had.
     pub not_found: u64,
-    /// Those that the server refused as invalid: it has failed their tasks itself.
+    /// Those that the server refused as invalid (code 3). It has failed the workflow tasks among
+    /// them itself.
     pub invalid: u64,
-    /// Those that it refused for another reason, or that got no response.
+    /// Those that it refused for another reason, or of whose call no response came, also if it
+    /// could not be made.
     pub lost: u64,
     /// Those among the first two that complete their task. The host counts these tasks as
-    /// completed, and the tasks of all others as failed.
+    /// completed, and the tasks of all others as failed, but for those whose history is malformed,
+    /// which it never took.
     pub completions: u64,
 }
 
@@ -67,6 +71,15 @@ impl UntakenAnswers {
             | Receipt::Replaced
             | Receipt::Cut
             | Receipt::NoMemory => {}
+        }
+    }
+
+    /// Counts the answer of a call, if the server did not take it.
+    fn note(&mut self, count: CallCount)
+        ensures { self.new ≡ with_count count self.old }
+    {
+        if let Some(receipt) = count.untaken {
+            self.add(receipt, count.completes);
         }
     }
 
@@ -130,9 +143,9 @@ impl AnswerCounter {
         }
     }
 
-    /// Counts an answer, as [`UntakenAnswers::add`] says.
-    pub(crate) fn add<R: Wait>(&self, rt: &R, receipt: Receipt, completes: bool) {
-        self.untaken.lock(rt).add(receipt, completes);
+    /// Counts the answer of a call, as [`UntakenAnswers::note`] says.
+    pub(crate) fn add<R: Wait>(&self, rt: &R, count: CallCount) {
+        self.untaken.lock(rt).note(count);
     }
 
     /// What was counted so far.

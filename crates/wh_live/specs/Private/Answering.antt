@@ -1,82 +1,163 @@
 -- What is sent for a task, and what becomes of it.
-use Rattle.std.specs.Prelude.{◌≡◌, ◌⊎◌, ◌<◌, ℕ, List, [], codes, not, Bool, true, false, Option, Some, None, Result, Ok, Err, string_bytes, if◌then◌else◌}
+use Rattle.std.specs.Prelude.{◌≡◌, ◌≢◌, ◌↔◌, ◌⊎◌, ◌<◌, IsOk, IsTrue, ℕ, List, codes, not, Bool, true, false, Option, Some, None, Result, Ok, Err, string_bytes, if◌then◌else◌}
 use Rattle.std.specs.List.{list_any}
 use Rattle.std.specs.Str.{bytes_eq}
-use Rattle.serde_json.specs.Data.{Data}
-use Rattle.wh_client.specs.Calls.{Gives}
-use Rattle.wh_client.specs.Codes.{accepted_answer, keeps_run}
+use Rattle.serde_json.specs.Data.{Data, Members, no_members, member}
+use Rattle.serde_json.specs.View.{members_view}
+use Rattle.wh_client.specs.Calls.{Fails, Gives}
+use Rattle.wh_client.specs.Codes.{accepted_answer, is_taken, keeps_run}
 use Rattle.wh_live.specs.Answers.{cause_of, receipt_of}
-use Rattle.wh_client.specs.Histories.{HandsOn}
+use Rattle.wh_client.specs.Histories.{CarriesUnknown, HandsOn}
+use Rattle.wh_client.specs.Refusals.{HasNoMeaning}
 use Rattle.wh_client.specs.declared.asking.AskFault.{AskFault}
 use Rattle.wh_client.specs.declared.asking.AskFault.TheVariants as asked
 use Rattle.wh_client.specs.declared.codes.Receipt.{Receipt}
-use Rattle.wh_client.specs.declared.codes.Receipt.TheVariants.{NoMemory, Replaced}
+use Rattle.wh_client.specs.declared.codes.Receipt.TheVariants.{Lost, NoMemory, Replaced, Withheld}
 use Rattle.wh_client.specs.declared.codes.Status.{Status}
 use Rattle.wh_client.specs.declared.codes.Status.TheVariants as status
 use Rattle.wh_client.specs.declared.options.LiveOptions.{LiveOptions}
+use Rattle.wh_commands.specs.declared.fault.RequestFault.{RequestFault}
 use Rattle.wh_events.specs.declared.event.Event.{Event}
 use Rattle.wh_events.specs.declared.key.RunKey.{RunKey}
 use Rattle.wh_commands.specs.CarryingOver.{Carried, continues, nothing_carried}
 use Rattle.wh_commands.specs.declared.names.WorkerNames.{WorkerNames}
 use Rattle.wh_requests.specs.declared.request.FailedCause.{FailedCause}
 use Rattle.wh_requests.specs.Requests.{workflow_completed, workflow_failed}
-use Rattle.wh_responses.specs.Completions.{is_discarded}
 use Rattle.wh_replay.specs.declared.run.Answer.{Answer}
 use Rattle.wh_replay.specs.declared.run.Answer.TheVariants.{Complete, Fail}
 use Rattle.wh_slots.specs.declared.TaskName.{TaskName}
 use Rattle.wh_tasks.specs.declared.source.RunUse.{RunUse}
 use Rattle.wh_tasks.specs.declared.source.RunUse.TheVariants.{Cache, Discard}
 use Rattle.wh_workflow.specs.declared.command.Command.{Command}
+use Rattle.wh_live.specs.declared.tallies.Tally.{Tally}
 use Rattle.wh_live.specs.declared.tasks.OpenTask.{OpenTask}
+use Rattle.wh_live.specs.Private.Counting.{settled}
+use Rattle.wh_live.specs.Private.Receipts.{IsReceiptOf, IsRefusedAsLarge}
+use Rattle.wh_tasks.specs.declared.source.SourceFault.{SourceFault}
 
 -- ---- What is sent
 
--- the server returned a result for the completion of the task with these commands, and with what its run carries over;
--- by that the task is not discarded
-pub record CompletesWith (gives : Gives) (options : LiveOptions) (task : OpenTask) (commands : List Command)
-    (events : List Event) (carried : Carried) : Type 0 where
-  pub params : Data
-  pub written :
-      workflow_completed options.names task.token commands events [] options.sticky options.policies carried
-      ≡ Ok params
-  pub result : Data
-  pub given : gives (codes "RespondWorkflowTaskCompleted") params result
-  pub kept : is_discarded result ≡ false
+-- the task was failed instead of answered, unless there was no memory
+abbrev pub IsReplaced : Receipt → Type 0
+IsReplaced receipt = (receipt ≡ Replaced) ⊎ (receipt ≡ NoMemory)
+
+-- what became of a completion, by what is written for it: a request; or a fault, and the task is failed instead
+abbrev pub IsCompletion : Gives → Fails → Result Data RequestFault → Receipt → Type 0
+IsCompletion gives fails (Ok params) receipt =
+    IsReceiptOf gives fails (codes "RespondWorkflowTaskCompleted") params receipt
+IsCompletion gives fails (Err fault) receipt = IsReplaced receipt
+
+-- what became of the completion of the task with these commands and results of queries, and with what its run carries
+-- over
+abbrev pub CompletesWith : Gives → Fails → LiveOptions → OpenTask → List Command → List Event → Members → Carried → Receipt → Type 0
+CompletesWith gives fails options task commands events results carried receipt = IsCompletion gives fails
+    (workflow_completed options.names task.token commands events results options.sticky options.policies carried) receipt
+
+-- which results the queries of a task may get, by the events of its run
+abbrev pub GivesResults : Type 1
+GivesResults = List Event → Members → Members → Type 0
+
+-- these are results of the queries of a task; without queries there are none
+abbrev pub HasResults : GivesResults → List Event → Members → Members → Type 0
+HasResults gives_results events no_members results = results ≡ no_members
+HasResults gives_results events (member id query queries) results =
+    gives_results events (member id query queries) results
+
+-- what became of a call with results of queries; or it was too large, and this became of the one without them
+abbrev pub IsReceiptOrSmaller : Gives → Fails → List ℕ → Data → (Receipt → Type 0) → Receipt → Type 0
+IsReceiptOrSmaller gives fails method params smaller receipt = IsReceiptOf gives fails method params receipt
+    ⊎ (IsRefusedAsLarge (fails method params) × smaller receipt)
+
+-- what became of a completion with results of queries, by what is written for it: a request; or a fault, and the task is
+-- failed instead
+abbrev pub IsCompletionOrSmaller : Gives → Fails → Result Data RequestFault → (Receipt → Type 0) → Receipt → Type 0
+IsCompletionOrSmaller gives fails (Ok params) smaller receipt =
+    IsReceiptOrSmaller gives fails (codes "RespondWorkflowTaskCompleted") params smaller receipt
+IsCompletionOrSmaller gives fails (Err fault) smaller receipt = IsReplaced receipt
+
+-- what became of the completion of the task with these commands and the results of its queries, or of the one without
+-- these results, if that with them was too large
+pub record HasAnsweredQueries (gives_results : GivesResults) (gives : Gives) (fails : Fails) (options : LiveOptions)
+    (task : OpenTask) (commands : List Command) (events : List Event) (carried : Carried) (receipt : Receipt) : Type 0 where
+  pub results : Members
+  pub has : HasResults gives_results events (members_view task.queries.entries) results
+  pub became : IsCompletionOrSmaller gives fails
+      (workflow_completed options.names task.token commands events results options.sticky options.policies carried)
+      (CompletesWith gives fails options task commands events no_members carried) receipt
+
+-- the same, unless there was no memory for the results
+abbrev pub CompletesAnswered : GivesResults → Gives → Fails → LiveOptions → OpenTask → List Command → List Event
+    → Carried → Receipt → Type 0
+CompletesAnswered gives_results gives fails options task commands events carried receipt =
+    HasAnsweredQueries gives_results gives fails options task commands events carried receipt ⊎ (receipt ≡ NoMemory)
 
 -- what a run carries over if it is continued as a new one: what its first event says
 abbrev pub IsCarried : Gives → WorkerNames → RunKey → Bool → Carried → Type 0
 IsCarried gives names run false carried = carried ≡ nothing_carried
 IsCarried gives names run true carried = HandsOn gives names run carried
 
--- the server returned a result for the completion of the task with these commands
-abbrev pub CompletesTask : Gives → LiveOptions → OpenTask → List Command → List Event → Type 0
-CompletesTask gives options task commands events =
-    (carried : Carried) × IsCarried gives options.names task.run (list_any continues commands) carried
-    × CompletesWith gives options task commands events carried
+-- nothing is sent, since it is not known what the run carries over: that was refused with no status of its own, or the
+-- fault decides
+pub record IsUnsent (gives : Gives) (fails : Fails) (names : WorkerNames) (run : RunKey) (receipt : Receipt) : Type 0 where
+  pub fault : AskFault
+  pub unknown : CarriesUnknown gives fails names run fault
+  pub meaning : HasNoMeaning fault
+  pub is : receipt ≡ receipt_of fault
 
--- the server returned a result for the failure of the task of a token with a cause
-pub record FailsTask (gives : Gives) (names : WorkerNames) (token : List ℕ) (cause : FailedCause) : Type 0 where
+-- what became of the completion of the task with these commands
+abbrev pub CompletesTask : GivesResults → Gives → Fails → LiveOptions → OpenTask → List Command → List Event → Receipt → Type 0
+CompletesTask gives_results gives fails options task commands events receipt =
+    ((carried : Carried) × IsCarried gives options.names task.run (list_any continues commands) carried
+    × CompletesAnswered gives_results gives fails options task commands events carried receipt)
+    ⊎ ((list_any continues commands ≡ true) × IsUnsent gives fails options.names task.run receipt)
+
+-- what became of the failure of the task of a token with a cause
+pub record FailsTask (gives : Gives) (fails : Fails) (names : WorkerNames) (token : List ℕ) (cause : FailedCause)
+    (receipt : Receipt) : Type 0 where
   pub message : List ℕ
-  pub result : Data
-  pub given : gives (codes "RespondWorkflowTaskFailed") (workflow_failed names token cause message) result
+  pub became : IsReceiptOf gives fails (codes "RespondWorkflowTaskFailed") (workflow_failed names token cause message) receipt
 
--- the server returned a result for this answer to the task
-abbrev pub HasAnswer : Gives → LiveOptions → OpenTask → Answer → List Event → Type 0
-HasAnswer gives options task (Complete commands) events = CompletesTask gives options task commands events
-HasAnswer gives options task (Fail fault) events = FailsTask gives options.names task.token (cause_of fault)
+-- what became of this answer to the task
+abbrev pub HasAnswer : GivesResults → Gives → Fails → LiveOptions → OpenTask → Answer → List Event → Receipt → Type 0
+HasAnswer gives_results gives fails options task (Complete commands) events receipt =
+    CompletesTask gives_results gives fails options task commands events receipt
+HasAnswer gives_results gives fails options task (Fail fault) events receipt =
+    FailsTask gives fails options.names task.token (cause_of fault) receipt
 
 -- only a failure is withheld, and not that of the first attempt
 abbrev pub IsKeptBack : OpenTask → Answer → Type 0
 IsKeptBack task (Complete commands) = ⊥
 IsKeptBack task (Fail fault) = 1 < task.attempt
 
--- the open task has this name, and the server returned a result for this answer to it
-pub record AnswersOpen (gives : Gives) (options : LiveOptions) (open_task : Option OpenTask) (name : TaskName)
-    (answer : Answer) (events : List Event) : Type 0 where
+-- this answer to the task is kept back, or else this became of it
+pub record IsAnswerReceipt (gives_results : GivesResults) (gives : Gives) (fails : Fails) (options : LiveOptions)
+    (answer : Answer) (events : List Event) (task : OpenTask) (receipt : Receipt) : Type 0 where
+  pub kept_back : receipt ≡ Withheld → IsKeptBack task answer
+  pub sent : receipt ≢ Withheld → HasAnswer gives_results gives fails options task answer events receipt
+
+-- the open task has this name, and this became of the answer to it
+pub record AnswersOpen (answers : OpenTask → Receipt → Type 0) (open_task : Option OpenTask) (name : TaskName)
+    (receipt : Receipt) : Type 0 where
   pub task : OpenTask
   pub is : open_task ≡ Some task
   pub named : task.name ≡ name
-  pub answered : HasAnswer gives options task answer events
+  pub answered : answers task receipt
+
+-- no task of this name is open
+abbrev pub IsNotOpen : Option OpenTask → TaskName → Type 0
+IsNotOpen open_task name = (task : OpenTask) → open_task ≡ Some task → task.name ≢ name
+
+-- what became of the answer to the task of a name: an answer to no open task is lost, and there may be no memory
+abbrev pub IsOpenReceipt : (OpenTask → Receipt → Type 0) → Option OpenTask → TaskName → Receipt → Type 0
+IsOpenReceipt answers open_task name receipt = AnswersOpen answers open_task name receipt
+    ⊎ (((receipt ≡ Lost) × IsNotOpen open_task name) ⊎ (receipt ≡ NoMemory))
+
+-- what became of an answer decides whether it counts as taken, and what is counted
+pub record Settles (became : Receipt → Type 0) (sent : Result (Unit {0}) SourceFault) (old new : Tally) : Type 0 where
+  pub receipt : Receipt
+  pub is : became receipt
+  pub taken : IsTrue (is_taken receipt) ↔ IsOk sent
+  pub tally : new ≡ settled receipt old
 
 -- ---- What becomes of it
 
@@ -84,10 +165,6 @@ pub record AnswersOpen (gives : Gives) (options : LiveOptions) (open_task : Opti
 abbrev pub receipt_of_sent : Result Bool AskFault → Receipt
 receipt_of_sent (Ok is_discarded) = accepted_answer is_discarded
 receipt_of_sent (Err fault) = receipt_of fault
-
--- the task was failed instead of answered, unless there was no memory
-abbrev pub IsReplaced : Receipt → Type 0
-IsReplaced receipt = (receipt ≡ Replaced) ⊎ (receipt ≡ NoMemory)
 
 -- the message says that the run had new events while its answer closed it
 abbrev pub is_unhandled_command : List ℕ → Bool

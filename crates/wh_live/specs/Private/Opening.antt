@@ -1,9 +1,12 @@
 -- Tasks that were opened, and are to be answered.
-use Rattle.std.specs.Prelude.{◌≡◌, ◌⊎◌, ⊤, ℕ, Bool, List, [], Option, Some, None, option_map, Result, Ok, Err, IfOk, IsSomeAnd, if◌then◌else◌}
+use Rattle.std.specs.Prelude.{◌≡◌, ◌⊎◌, ⊤, codes, ℕ, Bool, List, [], Option, Some, None, option_map, Result, Ok, Err, IfOk, IsSomeAnd, if◌then◌else◌}
 use Rattle.serde_json.specs.Data.{Data}
-use Rattle.wh_client.specs.Calls.{Gives}
+use Rattle.serde_json.specs.View.{members_view}
+use Rattle.wh_client.specs.Calls.{Fails, Gives}
 use Rattle.wh_client.specs.Histories.{CanNotBeRead, HasAllMembers}
+use Rattle.wh_client.specs.Pages.{ReadsNotOn}
 use Rattle.wh_client.specs.Polls.{IsActivityPoll, IsWorkflowPoll}
+use Rattle.wh_client.specs.Refusals.{IsFaultBy}
 use Rattle.wh_client.specs.declared.asking.AskFault.{AskFault}
 use Rattle.wh_client.specs.declared.asking.AskFault.TheVariants as asked
 use Rattle.wh_events.specs.declared.event.Event.{Event}
@@ -16,7 +19,7 @@ use Rattle.wh_live.specs.declared.tasks.OpenTask.{OpenTask}
 use Rattle.wh_responses.specs.declared.response.PolledActivity.{PolledActivity}
 use Rattle.wh_commands.specs.declared.names.WorkerNames.{WorkerNames}
 use Rattle.wh_responses.specs.declared.response.ActivityPoll.{ActivityPoll}
-use Rattle.wh_responses.specs.declared.response.ActivityPoll.TheVariants as ActivityPoll
+use Rattle.wh_requests.specs.Requests.{poll_activity, poll_workflow}
 use Rattle.wh_responses.specs.Responses.{Task}
 use Rattle.wh_responses.specs.Responses as read
 use Rattle.wh_replay.specs.Runs.{follows}
@@ -109,14 +112,15 @@ IsSilent asked.TooManyPages = ⊥
 IsSilent (asked.History fault) = ⊥
 IsSilent asked.OutOfMemory = ⊤
 
--- a task is answered with its token, in its attempt, and under the name under which it is delivered, which is the id of
--- the poll
+-- a task is answered with its token, in its attempt, with the results of its queries, and under the name under which it
+-- is delivered, which is the id of the poll
 pub record Opens (id : ℕ) (polled : Task) (opened : OpenTask) (given : TaskName) : Type 0 where
   pub numbered : given.0 ≡ id
   pub name : opened.name ≡ given
   pub token : opened.token ≡ polled.token
   pub run : opened.run ≡ polled.run
   pub attempt : opened.attempt ≡ polled.attempt
+  pub queries : members_view opened.queries.entries ≡ polled.queries
 
 -- the same for an activity task
 pub record OpensActivity (id : ℕ) (polled : PolledActivity) (opened : OpenTask) (given : TaskName) : Type 0 where
@@ -157,13 +161,14 @@ GivesOpened p result open_task = IfOk result (IfTask (λ task. IsSomeAnd open_ta
 abbrev pub later_events : List Event → List Event
 later_events events = if follows 0 events then [] else events
 
--- the open task keeps its token, run, attempt and name, under which it is delivered
+-- the open task keeps its token, run, attempt, queries and name, under which it is delivered
 pub record StaysOpen (old new : OpenTask) (given : TaskName) : Type 0 where
   pub kept : old.name ≡ given
   pub name : new.name ≡ given
   pub token : new.token ≡ old.token
   pub run : new.run ≡ old.run
   pub attempt : new.attempt ≡ old.attempt
+  pub queries : new.queries ≡ old.queries
 
 -- if the poll returned a task it is delivered and opened; otherwise the open task stays
 abbrev pub IsOpened : {A : Type 0} → Result (Polled (OpenTask × A)) SourceFault → Option OpenTask
@@ -190,3 +195,24 @@ HasLater gives names queue open_task = HasKept gives names queue (option_map lat
 -- the open task is as before, or none is
 abbrev pub KeepsLater : Option OpenTask → Option OpenTask → Type 0
 KeepsLater old new = (new ≡ None) ⊎ (option_map later_kept new ≡ option_map later_kept old)
+
+-- ---- Polls that bring nothing
+
+-- the bridge closed before all pages of the history of a task were fetched
+abbrev pub IsCutShort : Gives → Fails → WorkerNames → Task → Type 0
+IsCutShort gives fails names polled = ReadsNotOn gives fails names polled.run polled.next_page asked.Closed
+
+-- why a poll of a queue brings nothing: the call came to this, its result can't be read, or the bridge closed before all
+-- pages of its task were fetched
+abbrev pub IsWorkflowFault : Gives → Fails → WorkerNames → Bool → AskFault → Type 0
+IsWorkflowFault gives fails names sticky fault =
+    IsFaultBy (fails (codes "PollWorkflowTaskQueue") (poll_workflow names sticky)) fault
+    ⊎ (((fault ≡ asked.Unreadable) × IsWorkflowPoll gives names sticky read.unreadable)
+    ⊎ ((fault ≡ asked.Closed)
+    × ((polled : Task) × IsWorkflowPoll gives names sticky (read.task polled) × IsCutShort gives fails names polled)))
+
+-- why a poll for activity tasks brings nothing: the call came to this, or its result can't be read
+abbrev pub IsActivityFault : Gives → Fails → WorkerNames → AskFault → Type 0
+IsActivityFault gives fails names fault =
+    IsFaultBy (fails (codes "PollActivityTaskQueue") (poll_activity names)) fault
+    ⊎ ((fault ≡ asked.Unreadable) × IsActivityPoll gives names ActivityPoll.Unreadable)

@@ -1,6 +1,8 @@
 -- What a source reports for a poll.
 use Rattle.std.specs.Prelude.{◌≡◌, ℕ, ◌+◌, Result, Ok, Err, IsErr}
+use Rattle.wh_client.specs.Calls.{Fails}
 use Rattle.wh_client.specs.Codes.{poll_end}
+use Rattle.wh_client.specs.Polls.{IsPollingOver}
 use Rattle.wh_client.specs.declared.asking.AskFault.{AskFault}
 use Rattle.wh_client.specs.declared.asking.AskFault.TheVariants as asked
 use Rattle.wh_client.specs.declared.codes.PollEnd.{PollEnd}
@@ -23,6 +25,10 @@ end_of asked.Unreadable = Later
 end_of asked.TooManyPages = Later
 end_of (asked.History fault) = Later
 end_of asked.OutOfMemory = Later
+
+-- polling fails for good only after a poll has shown that no later one can succeed
+abbrev pub MayEnd : Fails → AskFault → Type 0
+MayEnd fails fault = end_of fault ≡ Never → IsPollingOver fails
 
 -- the source is closed, or has no task now, or it fails
 abbrev pub EndsPoll : {A : Type 0} → PollEnd → Result (Polled A) SourceFault → Type 0

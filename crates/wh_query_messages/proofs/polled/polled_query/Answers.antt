@@ -2,7 +2,7 @@ use Rattle.std.proofs.Common.{sym, rules}
 use Rattle.serde_json.specs.View.{view}
 use Rattle.wh_json.specs.Fields.{field}
 use Rattle.wh_responses.specs.Responses.{page_seen, run_in}
-use Rattle.wh_query_messages.specs.Polled.{asked}
+use Rattle.wh_query_messages.specs.Polled.{query_of}
 use Rattle.wh_query_messages.proofs.Reading.{query_made, query_not_numbered}
 use Rattle.wh_query_messages.proofs.polled.polled_query.Goals as goal
 

@@ -21,4 +21,4 @@ times_made times scheduled attempt_scheduled started heartbeat_timeout start_to_
 pub returns : goal.returns
 returns c =
     times_made (times_in (view c.args.value.now)) _ _ _ _ _ _ c.instant_at.ensures c.instant_at-2.ensures c.instant_at-3.ensures
-    c.duration_at.ensures c.duration_at-2.ensures c.duration_at-3.ensures
+    c.timeout_at.ensures c.timeout_at-2.ensures c.timeout_at-3.ensures

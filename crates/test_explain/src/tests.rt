@@ -1,0 +1,5 @@
+//! A module for each file of `src/tests`.
+
+mod explaining;
+mod jobs;
+mod values;
