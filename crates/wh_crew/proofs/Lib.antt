@@ -1,3 +1,4 @@
 pub mod Polling
 pub mod Setups
 pub mod Served
+mod Sending

@@ -151,9 +151,10 @@ fn a_cancel_is_of_its_task_alone(rt: HostRuntime) {
 
 /// The details that are a number.
 fn details(rt: &impl Abort, alloc: Global, number: u64) -> Items<Payload> {
+    let number = u8::try_from(number).expect(rt, "a byte");
     let payload = Payload {
         encoding: Items::new(Vec::new(alloc)),
-        content: Items::new(vec![in alloc; number as u8].expect(rt, "memory")),
+        content: Items::new(vec![in alloc; number].expect(rt, "memory")),
     };
     Items::new(vec![in alloc; payload].expect(rt, "memory"))
 }
