@@ -62,7 +62,19 @@ connection_sync ℓ R C shared called =
 pub source_send : (ℓ : NamedLft) (L Q : RattleType) (bridge : _) (handler : _)
     → IsSync L → IsSync Q → IsSend (the_row ℓ L Q bridge handler)
 source_send ℓ L Q bridge handler shared answered =
-    search (members_send, liveOptions.the_sync, role.the_field_send, event.the_send,
-        runKey.the_field_send, text.the_send, ghostList.the_send,
-        activityCell.the_sync, journal.the_field_send, taskName.the_field_send,
-        taskName.the_send, maps.crosses, heap.crosses, sendable) depth 60 fits 20000
+    search (
+      members_send,
+      liveOptions.the_sync,
+      role.the_field_send,
+      event.the_send,
+      runKey.the_field_send,
+      text.the_send,
+      ghostList.the_send,
+      activityCell.the_sync,
+      journal.the_field_send,
+      taskName.the_field_send,
+      taskName.the_send,
+      maps.crosses,
+      heap.crosses,
+      sendable,
+    ) depth 60 fits 20000

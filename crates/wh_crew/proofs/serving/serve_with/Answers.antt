@@ -35,7 +35,7 @@ run_host_answering-requires-send-S g c κs within =
     let ℓ : NamedLft = record { mir = named 13; lft = κs.1.1.1.1.1.1.1.1.1.1.1.1.1.0 } in
     let ℓ' : NamedLft = record { mir = named 14; lft = κs.1.1.1.1.1.1.1.1.1.1.1.1.1.1.0 } in
     let ghosts = connection.ghosts R C g.R.Wait connection.no_dict g.R.Clock connection.no_dict g.R.Eprint
-          connection.no_dict g.C.Caller connection.no_dict in
+    connection.no_dict g.C.Caller connection.no_dict in
     let shared = connection_sync ℓ' R C (param_sync 1 _ c.type_bounds.sync-R) (param_sync 2 _ c.type_bounds.sync-C) in
     param_send 2 _ (arg_send _ no _ (source_send ℓ _ (param 6 g.row.Q) ghosts g.Q.QueryHandler shared
-        (param_sync 6 _ c.type_bounds.sync-Q)))
+    (param_sync 6 _ c.type_bounds.sync-Q)))
