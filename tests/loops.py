@@ -126,6 +126,8 @@ class Loop:
         wrong = list(self.server.findings.wrong)
         wrong += [f"not closed: {run.kind} {run.workflow_id}" for run in self.server.runs.all if not run.closed]
         wrong += self.world.failures
+        if not self.server.findings.counts["given"]:
+            wrong.append("no task was given to a worker")
         if self.server.queries.open:
             wrong.append(f"{self.server.queries.open} queries without an answer")
         return wrong + self.replayed() + [what for process in ended for what in self.reported(process)]
