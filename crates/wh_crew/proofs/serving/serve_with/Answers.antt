@@ -32,8 +32,8 @@ pub run_host_answering-requires-send-S : goal.run_host_answering-requires-send-S
 run_host_answering-requires-send-S g c κs within =
     let R = param 1 g.row.R in
     let C = param 2 g.row.C in
-    let ℓ : NamedLft = record { mir = named 13; lft = κs.1.1.1.1.1.1.1.1.1.1.1.1.1.0 } in
-    let ℓ' : NamedLft = record { mir = named 14; lft = κs.1.1.1.1.1.1.1.1.1.1.1.1.1.1.0 } in
+    let ℓ : NamedLft = record { mir = named 14; lft = κs.1.1.1.1.1.1.1.1.1.1.1.1.1.1.0 } in
+    let ℓ' : NamedLft = record { mir = named 15; lft = κs.1.1.1.1.1.1.1.1.1.1.1.1.1.1.1.0 } in
     let ghosts = connection.ghosts R C g.R.Wait connection.no_dict g.R.Clock connection.no_dict g.R.Eprint
     connection.no_dict g.C.Caller connection.no_dict in
     let shared = connection_sync ℓ' R C (param_sync 1 _ c.type_bounds.sync-R) (param_sync 2 _ c.type_bounds.sync-C) in
