@@ -38,6 +38,8 @@ TRIES = 5
 STALE = "Run the lower steps again"
 # What it says of a hole for a function that it knows by another name.
 NO_FUNCTION = re.compile(r"^(?:\./)?proofs/(\S+)/Proof\.antt: error: `\w+` has no function ", re.MULTILINE)
+# What it says of a hole for a function of a cycle of calls, whose proof stands elsewhere.
+IN_CYCLE = re.compile(r"^(?:\./)?proofs/(\S+)/Proof\.antt: error\[reserved-name\]", re.MULTILINE)
 # A proof that is a hole.
 HOLE = "use Rattle.{0}.proofs.{1}.Statement.{{statement}}\n\npub {2}_spec : {{M : Type 1}} → statement M\n{2}_spec = ?\n"
 
@@ -274,8 +276,10 @@ class Trial:
             names = [f"--only={self.name_of(*function)}" for function in sorted(functions)]
             # An edit that is tried by itself gets the proofs as they are.
             has_holes = not any(edit.alone for edit in edits)
-            self.write_proofs(functions if has_holes else None)
-            check = self.run(texts, *names, *(["--allow-holes"] if has_holes else []))
+            check = self.check_only(functions if has_holes else None, texts, names)
+            while in_cycles := {*IN_CYCLE.findall(check.said)} - self.unknown:
+                self.unknown |= in_cycles
+                check = self.check_only(functions, texts, names)
         # Where rattle names one of them otherwise, or nothing but a whole check looks at it, all are checked.
         if check is None or check.status == 2:
             self.write_proofs(None)
@@ -285,6 +289,11 @@ class Trial:
         self.unknown |= {*NO_FUNCTION.findall(check.said)}
         self.rounds += 1
         return check
+
+    def check_only(self, tried, texts, names):
+        """Checks these functions alone, with a hole for each that is not tried, where some are."""
+        self.write_proofs(tried)
+        return self.run(texts, *names, *(["--allow-holes"] if tried is not None else []))
 
     def name_of(self, module, path):
         """A name for a function: its path, without the module where no other method has the same."""
