@@ -362,6 +362,7 @@ class Trial:
 
     def compiles(self, edit):
         """Whether the compiler takes an edit by itself, or there is no time to see that; where it doesn't, that is said."""
+        self.write_proofs(None)
         try:
             check = self.run(edit.applied_to(self.texts), "--only=")
         except Late:
