@@ -26,6 +26,8 @@ WORKSPACES, LOGS = OUT / "launcher.workspaces", OUT / "launcher.logs"
 TABLE, MEASURED = HERE / "costs.txt", OUT / "launcher.costs"
 # Written in the folder of a program that was built.
 STAMP = Path("out/launcher.stamp")
+# Starts rt, which then reads each crate once for a sum.
+RT = [sys.executable, "-B", str(HERE / "quick_rt.py")]
 # What rt reads of a crate, and what it keeps in out/.
 SOURCES, LIBRARY, KEPT = ("src", "specs", "proofs"), "out/rlib", "out/incremental"
 # The control group of a container, where there is one.
@@ -357,7 +359,7 @@ class Build:
         had_kept = (folder / KEPT).is_dir()
         with open(LOGS / crate.name, "wb") as log:
             started = subprocess.Popen(
-                ["rt", command, "--jobs", str(jobs), *words], cwd=folder, stdin=subprocess.DEVNULL, stdout=log, stderr=log
+                [*RT, command, "--jobs", str(jobs), *words], cwd=folder, stdin=subprocess.DEVNULL, stdout=log, stderr=log
             )
         self.running.append(Run(crate, folder, jobs, had_kept, started))
 

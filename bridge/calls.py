@@ -74,6 +74,12 @@ def poll_message(made: type, params: str) -> Any:
     return json_format.ParseDict(json.loads(params), made(), ignore_unknown_fields=True)
 
 
+def tells_of_discarded_tasks() -> bool:
+    """Returns whether the package knows the field that says that a task was discarded. Without it the host would cache a run
+    whose last events are in no history."""
+    return "reset_history_event_id" in messages.RespondWorkflowTaskCompletedResponse.DESCRIPTOR.fields_by_name
+
+
 def run_of(execution: Dict[str, Any]) -> str:
     """Returns the ids of a run."""
     return f"{execution.get('workflowId')} {execution.get('runId')}"

@@ -107,8 +107,7 @@ class TaskCounts:
         with self.lock:
             of_run: Optional[Labels] = self.open.pop(request.task_token, None)
             name = CLOSES.get(request.commands[-1].command_type) if request.commands else None
-            # An old package has no such field.
-            if of_run and name and not getattr(response, "reset_history_event_id", 0):
+            if of_run and name and not response.reset_history_event_id:
                 self.counters[name][of_run] += 1
 
     def text(self) -> str:

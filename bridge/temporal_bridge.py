@@ -10,7 +10,7 @@ input. Each request gets a response. The bridge decides nothing about a workflow
 with a name that no other process has, and `{namespace}` with --namespace. On SIGTERM or SIGINT it tells the command to
 shut down, and waits until that has ended; a second signal kills the command. Its exit status is that of the command, 128
 plus the number of the signal that ended the command, or 2 if the command can't be started, the server can't be reached, or
-an option or a file can't be used.
+an option, a file or a package can't be used.
 An option that is not given is taken from the environment variable in parentheses. The files of certificates and keys are read
 again when they change.
 
@@ -58,9 +58,12 @@ SHUTDOWN = b'{"jsonrpc":"2.0","method":"shutdown"}\n'
 def import_calls() -> Type[Calls]:
     """Imports what needs the two packages; without them --help works too."""
     try:
-        from calls import Calls
+        from calls import Calls, tells_of_discarded_tasks
     except ImportError as missing:
         raise Unusable(f"{missing}; install it by: pip install temporalio grpcio") from missing
+    if not tells_of_discarded_tasks():
+        what = "it does not know resetHistoryEventId, by which a server says that it has discarded a task"
+        raise Unusable(f"this package temporalio is too old: {what}: pip install --upgrade temporalio")
     return Calls
 
 

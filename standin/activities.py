@@ -74,6 +74,7 @@ class Activities:
             "workflowType": {"name": run.kind},
             "activityId": activity.id,
             "activityType": {"name": activity.kind},
+            "header": activity.header,
             "input": activity.input,
             "attempt": activity.attempt,
             "scheduledTime": time_text(activity.first_scheduled_at),

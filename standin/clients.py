@@ -26,6 +26,7 @@ class Clients:
             "SignalWorkflowExecution": self.signal,
             "RequestCancelWorkflowExecution": self.request_cancel,
             "TerminateWorkflowExecution": self.terminate,
+            "UpdateWorkflowExecution": self.update,
             "DescribeWorkflowExecution": self.describe,
             "GetWorkflowExecutionHistory": self.history,
         }
@@ -56,7 +57,8 @@ class Clients:
         if queue not in self.server.settings.queues:
             raise Refused(INVALID, f"no task queue {queue}")
         runs, kind = self.server.runs, params["workflowType"]["name"]
-        run = runs.start(kind, params["workflowId"], params.get("input"), queue=queue, carried=carried_over(params))
+        carried = {**carried_over(params), **({"header": params["header"]} if "header" in params else {})}
+        run = runs.start(kind, params["workflowId"], params.get("input"), queue=queue, carried=carried)
         if run is None:
             raise Refused(ALREADY_EXISTS, "a run of this id is open")
         return {"runId": run.run_id}
@@ -75,6 +77,13 @@ class Clients:
     def request_cancel(self, params):
         self.server.runs.request_cancel(self.run_of(params["workflowExecution"]))
         return {}
+
+    def update(self, params):
+        """Gives a run that has no task a speculative one. No worker here knows updates: a server says so after the task."""
+        run = self.run_of(params["workflowExecution"])
+        if run.task is None:
+            run.schedule_task(is_speculative=True)
+        return {"outcome": {"failure": {"message": "the update was not processed"}}}
 
     def terminate(self, params):
         self.server.runs.terminate(self.run_of(params["workflowExecution"]))

@@ -52,7 +52,7 @@ class Check:
             return f"the activity {name} is open already"
         self.activities.add(name)
         fault = policy_fault(attributes.get("retryPolicy", {})) if self.settings.has_policies else self.unasked(attributes)
-        return fault or self.queue(attributes)
+        return fault or self.queue(attributes) or self.header(attributes)
 
     def unasked(self, attributes):
         """Returns which option differs from what a worker without policies sets, or an empty text."""
@@ -68,6 +68,14 @@ class Check:
         name = attributes["taskQueue"]["name"]
         is_good = name in self.settings.queues if self.settings.has_policies else name == self.run.queue
         return "" if is_good else f"the task queue is {name}"
+
+    def header(self, attributes):
+        """Returns an empty text if the header is that of the run's start."""
+        found, wanted = attributes.get("header"), self.first().get("header")
+        return "" if found == wanted else f"the header is {found}, not {wanted}"
+
+    def first(self):
+        return self.run.events[0]["workflowExecutionStartedEventAttributes"]
 
     def request_cancel_activity_task(self, attributes):
         scheduled = int(attributes["scheduledEventId"])
@@ -91,7 +99,7 @@ class Check:
         return ""
 
     def start_child_workflow_execution(self, attributes):
-        return self.queue(attributes) or self.namespace(attributes)
+        return self.queue(attributes) or self.namespace(attributes) or self.header(attributes)
 
     def namespace(self, attributes):
         name = attributes["namespace"]
@@ -117,7 +125,7 @@ class Check:
     def continue_as_new_workflow_execution(self, attributes):
         """Returns what is wrong with a Continue-As-New, or an empty text: the next run gets what this one carries
         over."""
-        first = self.run.events[0]["workflowExecutionStartedEventAttributes"]
+        first = self.first()
         changed = [name for name in CARRIED_OVER if attributes.get(name) != first.get(name)]
         return self.queue(attributes) or (f"{changed[0]} is not that of the run" if changed else "")
 

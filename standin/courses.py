@@ -55,6 +55,37 @@ def payloads_in(attributes, name):
     return found
 
 
+def lists_of_payloads(value):
+    """Returns all lists named `payloads` in a JSON value."""
+    if isinstance(value, list):
+        return [found for one in value for found in lists_of_payloads(one)]
+    if not isinstance(value, dict):
+        return []
+    own = [value] if isinstance(value.get("payloads"), list) else []
+    return own + [found for one in value.values() for found in lists_of_payloads(one)]
+
+
+def noted_in(value):
+    """Returns the metadata that a worker notes of what came, under the data of the payload, where there are more than the
+    encoding: of the same data those that came last."""
+    found = [one for payloads in lists_of_payloads(value) for one in payloads_in({"all": payloads}, "all")]
+    return {bytes(one): one.metadata for one in found if len(one.metadata) > 1}
+
+
+def handed_on(payload, noted):
+    """Returns a payload as it goes out, with what is noted under its data if that names its encoding."""
+    metadata = noted.get(bytes(payload), {})
+    if metadata.get("encoding") == payload.metadata.get("encoding"):
+        payload = Payload(payload)
+        payload.metadata = metadata
+    return payload
+
+
+def command_handed_on(command, noted):
+    """Returns a command as it goes out."""
+    return tuple([handed_on(one, noted) for one in part] if isinstance(part, list) else part for part in command)
+
+
 def built_in(kind):
     """Returns what a query of a type that SDKs reserve gives."""
     if kind == "__stack_trace":
@@ -203,6 +234,8 @@ class Course:
         # given this many of both.
         self.jobs, self.ended, self.jobs_before, self.ends_before = [], [], 0, 0
         self.started, self.is_live = 0, False
+        # What is noted of the payloads in its events.
+        self.noted = {}
 
     def copy(self):
         other = Course(self.begin)
@@ -210,6 +243,7 @@ class Course:
         other.program = self.program.copy()
         other.things = {number: thing.copy() for number, thing in self.things.items()}
         other.versions, other.jobs, other.ended = dict(self.versions), list(self.jobs), list(self.ended)
+        other.noted = dict(self.noted)
         return other
 
     def read(self, events):
@@ -217,6 +251,7 @@ class Course:
         for event in events[self.count :]:
             name = "".join(word.capitalize() for word in event["eventType"].split("_")[2:])
             attributes = event.get(name[0].lower() + name[1:] + "EventAttributes", {})
+            self.noted.update(noted_in(attributes))
             getattr(self, "on_" + name, lambda *_: None)(int(event["eventId"]), attributes)
             self.count += 1
 
@@ -228,7 +263,8 @@ class Course:
         return other.activated()
 
     def activated(self):
-        return Activation(self).run(self.jobs[: self.jobs_before])
+        commands = Activation(self).run(self.jobs[: self.jobs_before])
+        return [command_handed_on(command, self.noted) for command in commands] if self.noted else commands
 
     def queried(self, kind, values):
         """Returns the result of a query after the last completed task: `(True, JSON value)` or `(False, text)`."""

@@ -21,6 +21,7 @@ QueryResultType QUERY_RESULT_TYPE_ UNSPECIFIED ANSWERED FAILED
 TimeoutType TIMEOUT_TYPE_ UNSPECIFIED START_TO_CLOSE SCHEDULE_TO_START SCHEDULE_TO_CLOSE HEARTBEAT
 WorkflowExecutionStatus WORKFLOW_EXECUTION_STATUS_ UNSPECIFIED RUNNING COMPLETED FAILED CANCELED TERMINATED
     CONTINUED_AS_NEW TIMED_OUT
+UpdateStage UPDATE_WORKFLOW_EXECUTION_LIFECYCLE_STAGE_ UNSPECIFIED ADMITTED ACCEPTED COMPLETED
 ParentClosePolicy PARENT_CLOSE_POLICY_ UNSPECIFIED TERMINATE ABANDON REQUEST_CANCEL
 WorkflowIdReusePolicy WORKFLOW_ID_REUSE_POLICY_ UNSPECIFIED ALLOW_DUPLICATE ALLOW_DUPLICATE_FAILED_ONLY
     REJECT_DUPLICATE TERMINATE_IF_RUNNING
@@ -58,6 +59,7 @@ ActivityType name 1 string
 RetryPolicy initial_interval 1 Duration, backoff_coefficient 2 double, maximum_interval 3 Duration, maximum_attempts 4
     int32, non_retryable_error_types 5 *string
 Memo fields 1 >Payload
+Header fields 1 >Payload
 SearchAttributes indexed_fields 1 >Payload
 TaskQueue name 1 string, kind 2 TaskQueueKind, normal_name 3 string
 ApplicationFailureInfo type 1 string, non_retryable 2 bool
@@ -69,7 +71,7 @@ WorkflowQuery query_type 1 string, query_args 2 Payloads
 WorkflowQueryResult result_type 1 QueryResultType, answer 2 Payloads, error_message 3 string
 
 ScheduleActivityTaskCommandAttributes activity_id 1 string, activity_type 2 ActivityType, task_queue 4 TaskQueue,
-    input 6 Payloads, schedule_to_close_timeout 7 Duration, schedule_to_start_timeout 8 Duration,
+    header 5 Header, input 6 Payloads, schedule_to_close_timeout 7 Duration, schedule_to_start_timeout 8 Duration,
     start_to_close_timeout 9 Duration, heartbeat_timeout 10 Duration, retry_policy 11 RetryPolicy
 RequestCancelActivityTaskCommandAttributes scheduled_event_id 1 int64
 StartTimerCommandAttributes timer_id 1 string, start_to_fire_timeout 2 Duration
@@ -87,7 +89,7 @@ ContinueAsNewWorkflowExecutionCommandAttributes workflow_type 1 WorkflowType, ta
 StartChildWorkflowExecutionCommandAttributes namespace 1 string, workflow_id 2 string, workflow_type 3 WorkflowType,
     task_queue 4 TaskQueue, input 5 Payloads, workflow_execution_timeout 6 Duration, workflow_run_timeout 7 Duration,
     workflow_task_timeout 8 Duration, parent_close_policy 9 ParentClosePolicy, workflow_id_reuse_policy 11
-    WorkflowIdReusePolicy, retry_policy 12 RetryPolicy
+    WorkflowIdReusePolicy, retry_policy 12 RetryPolicy, header 14 Header
 Command command_type 1 CommandType, schedule_activity_task_command_attributes 2
     ScheduleActivityTaskCommandAttributes, start_timer_command_attributes 3 StartTimerCommandAttributes,
     complete_workflow_execution_command_attributes 4 CompleteWorkflowExecutionCommandAttributes,
@@ -104,7 +106,7 @@ Command command_type 1 CommandType, schedule_activity_task_command_attributes 2
 WorkflowExecutionStartedEventAttributes workflow_type 1 WorkflowType, parent_workflow_execution 3 WorkflowExecution,
     parent_initiated_event_id 4 int64, task_queue 5 TaskQueue, input 6 Payloads, continued_execution_run_id 10
     string, original_execution_run_id 14 string, retry_policy 17 RetryPolicy, attempt 18 int32, memo 22 Memo,
-    search_attributes 23 SearchAttributes, workflow_id 28 string
+    search_attributes 23 SearchAttributes, header 25 Header, workflow_id 28 string
 WorkflowExecutionCompletedEventAttributes result 1 Payloads, workflow_task_completed_event_id 2 int64
 WorkflowExecutionFailedEventAttributes failure 1 Failure, workflow_task_completed_event_id 3 int64
 WorkflowExecutionTimedOutEventAttributes retry_state 1 RetryState
@@ -115,7 +117,7 @@ WorkflowTaskTimedOutEventAttributes scheduled_event_id 1 int64, started_event_id
 WorkflowTaskFailedEventAttributes scheduled_event_id 1 int64, started_event_id 2 int64, cause 3
     WorkflowTaskFailedCause, failure 4 Failure
 ActivityTaskScheduledEventAttributes activity_id 1 string, activity_type 2 ActivityType, task_queue 4 TaskQueue,
-    input 6 Payloads, schedule_to_close_timeout 7 Duration, schedule_to_start_timeout 8 Duration,
+    header 5 Header, input 6 Payloads, schedule_to_close_timeout 7 Duration, schedule_to_start_timeout 8 Duration,
     start_to_close_timeout 9 Duration, heartbeat_timeout 10 Duration, workflow_task_completed_event_id 11 int64,
     retry_policy 12 RetryPolicy
 ActivityTaskStartedEventAttributes scheduled_event_id 1 int64, attempt 4 int32
@@ -148,7 +150,7 @@ StartChildWorkflowExecutionInitiatedEventAttributes namespace 1 string, workflow
     WorkflowType, task_queue 4 TaskQueue, input 5 Payloads, workflow_execution_timeout 6 Duration,
     workflow_run_timeout 7 Duration, workflow_task_timeout 8 Duration, parent_close_policy 9 ParentClosePolicy,
     workflow_task_completed_event_id 11 int64, workflow_id_reuse_policy 12 WorkflowIdReusePolicy, retry_policy 13
-    RetryPolicy
+    RetryPolicy, header 15 Header
 StartChildWorkflowExecutionFailedEventAttributes workflow_id 2 string, workflow_type 3 WorkflowType, cause 4
     StartFailedCause, initiated_event_id 6 int64
 ChildWorkflowExecutionStartedEventAttributes initiated_event_id 2 int64, workflow_execution 3 WorkflowExecution,
@@ -183,7 +185,7 @@ RespondWorkflowTaskFailedRequest task_token 1 bytes, cause 2 WorkflowTaskFailedC
 RespondWorkflowTaskFailedResponse
 PollActivityTaskQueueRequest namespace 1 string, task_queue 2 TaskQueue, identity 3 string
 PollActivityTaskQueueResponse task_token 1 bytes, workflow_namespace 2 string, workflow_type 3 WorkflowType,
-    workflow_execution 4 WorkflowExecution, activity_type 5 ActivityType, activity_id 6 string, input 8 Payloads,
+    workflow_execution 4 WorkflowExecution, activity_type 5 ActivityType, activity_id 6 string, header 7 Header, input 8 Payloads,
     heartbeat_details 9 Payloads, scheduled_time 10 Timestamp, current_attempt_scheduled_time 11 Timestamp, started_time
     12 Timestamp, attempt 13 int32, schedule_to_close_timeout 14 Duration, start_to_close_timeout 15 Duration,
     heartbeat_timeout 16 Duration, retry_policy 17 RetryPolicy
@@ -207,11 +209,19 @@ GetSystemInfoRequest
 GetSystemInfoResponse server_version 1 string
 StartWorkflowExecutionRequest namespace 1 string, workflow_id 2 string, workflow_type 3 WorkflowType, task_queue 4
     TaskQueue, input 5 Payloads, identity 9 string, request_id 10 string, retry_policy 12 RetryPolicy, memo 14 Memo,
-    search_attributes 15 SearchAttributes
+    search_attributes 15 SearchAttributes, header 16 Header
 StartWorkflowExecutionResponse run_id 1 string
 SignalWorkflowExecutionRequest namespace 1 string, workflow_execution 2 WorkflowExecution, signal_name 3 string, input 4
     Payloads, identity 5 string, request_id 6 string
 SignalWorkflowExecutionResponse
+UpdateMeta update_id 1 string, identity 2 string
+UpdateInput header 1 Header, name 2 string, args 3 Payloads
+UpdateRequest meta 1 UpdateMeta, input 2 UpdateInput
+UpdateWaitPolicy lifecycle_stage 1 UpdateStage
+UpdateOutcome success 1 Payloads, failure 2 Failure
+UpdateWorkflowExecutionRequest namespace 1 string, workflow_execution 2 WorkflowExecution, wait_policy 4 UpdateWaitPolicy,
+    request 5 UpdateRequest
+UpdateWorkflowExecutionResponse outcome 2 UpdateOutcome, stage 3 UpdateStage
 QueryWorkflowRequest namespace 1 string, execution 2 WorkflowExecution, query 3 WorkflowQuery
 QueryWorkflowResponse query_result 1 Payloads
 RequestCancelWorkflowExecutionRequest namespace 1 string, workflow_execution 2 WorkflowExecution, identity 3 string,

@@ -30,6 +30,7 @@ FINAL_CODES = (9,)
 # The codes with which a proxy refuses polls in passing, which the bridge makes again.
 REFUSALS = (3, 5, 7, 16)
 MOST_THREADS = 400
+UNAUTHENTICATED = 16
 # After how many seconds a client's query is given up.
 QUERY_SECONDS = 8
 # After how many seconds a bridge notices that its connection is dead.
@@ -56,14 +57,17 @@ class Calls(grpc.GenericRpcHandler):
 
     def __init__(self, server, is_open=False):
         self.server, self.troubles, self.is_open, self.plan = server, server.troubles, is_open, Plan()
+        self.api_key = None
         self.lock, self.last = threading.RLock(), time.monotonic()
         self.clients, self.by_identity, self.by_connection = Clients(server), {}, {}
 
-    def listen(self, port=0, options=()):
-        """Begins to accept calls, on a port of its own choice if none is given, with further options of gRPC."""
+    def listen(self, port=0, options=(), credentials=None):
+        """Begins to accept calls, on a port of its own choice if none is given, with further options of gRPC, and over TLS with
+        credentials."""
         self.listener = grpc.server(ThreadPoolExecutor(MOST_THREADS), options=options)
         self.listener.add_generic_rpc_handlers([self])
-        self.port = self.listener.add_insecure_port(f"127.0.0.1:{port}")
+        add = self.listener.add_secure_port if credentials else self.listener.add_insecure_port
+        self.port = add(f"127.0.0.1:{port}", *filter(None, [credentials]))
         self.listener.start()
 
     def add(self, peer):
@@ -84,7 +88,9 @@ class Calls(grpc.GenericRpcHandler):
         )
 
     def take(self, method, message, context):
-        """Handles a call, unless a fault of it is planned, and returns its response."""
+        """Handles a call, unless a fault of it is planned, and returns its response. Where there is an API key, the call shows it."""
+        if self.api_key and ("authorization", f"Bearer {self.api_key}") not in context.invocation_metadata():
+            context.abort(CODES[UNAUTHENTICATED], "no such key")
         params = json_format.MessageToDict(message)
         call = Call(method, params, context, lambda: self.handle(method, params, context), lambda: self.lose(params, context))
         result, error = self.plan.answer(call)

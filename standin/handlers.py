@@ -2,7 +2,7 @@
 
 import json
 
-from courses import payloads_in
+from courses import handed_on, noted_in, payloads_in
 from findings import readable
 from peers import NOT_FOUND
 
@@ -65,7 +65,9 @@ class Till:
         what = params["failure"].get("message", "") if kind == "Failed" else self.values(params, "result" if kind == "Completed" else "details")
         given, input = (kind, what), self.values({"input": activity.input}, "input")
         if activity.kind == "ChargeCard":
-            wanted = ("Completed", input)
+            noted = noted_in(activity.input)
+            given = kind, payloads_in(params, "result")
+            wanted = ("Completed", [handed_on(one, noted) for one in payloads_in({"input": activity.input}, "input")])
         elif activity.kind != "PrintLabels":
             wanted = ("Failed", "no such activity")
         elif heard.end == "cancel":

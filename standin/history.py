@@ -54,7 +54,7 @@ class Activity:
         self.id = attributes["activityId"]
         self.kind = attributes["activityType"]["name"]
         self.queue = attributes["taskQueue"]["name"]
-        self.input = attributes.get("input")
+        self.input, self.header = attributes.get("input"), attributes.get("header")
         # What a worker sets, over what a server takes otherwise.
         self.policy = {"initialInterval": "1s", "backoffCoefficient": 2, "maximumInterval": "100s", **attributes.get("retryPolicy", {})}
         self.whole_timeout, self.heartbeat = attributes["scheduleToCloseTimeout"], attributes["heartbeatTimeout"]

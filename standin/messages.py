@@ -53,7 +53,9 @@ def one_of(*texts):
     return lambda value: value in texts
 
 
-PAYLOADS = {"payloads?": [{"data?": is_base64, "metadata?": {"*": is_base64}}]}
+PAYLOAD = {"data?": is_base64, "metadata?": {"*": is_base64}}
+PAYLOADS = {"payloads?": [PAYLOAD]}
+HEADER = {"fields?": {"*": PAYLOAD}}
 QUEUE = {"name": is_text}
 NAMED = {"name": is_text}
 FAILURE = {
@@ -124,6 +126,7 @@ COMMANDS = {
     "SCHEDULE_ACTIVITY_TASK": {
         "activityId": is_text,
         "activityType": NAMED,
+        "header?": HEADER,
         "heartbeatTimeout?": is_duration,
         "input?": PAYLOADS,
         "retryPolicy?": RETRY_POLICY,
@@ -136,6 +139,7 @@ COMMANDS = {
     "START_TIMER": {"startToFireTimeout": is_duration, "timerId": is_text},
     "CANCEL_TIMER": {"timerId": is_text},
     "START_CHILD_WORKFLOW_EXECUTION": {
+        "header?": HEADER,
         "input?": PAYLOADS,
         "namespace": is_text,
         "parentClosePolicy?": is_text,

@@ -23,7 +23,8 @@ class Relations:
     def start_child_now(self, run, child, attributes):
         kind, parent = attributes["workflowType"], (run, child.initiated)
         numbers = {"initiatedEventId": str(child.initiated), "workflowType": kind}
-        child.run = self.server.runs.start(kind["name"], child.workflow_id, attributes.get("input"), parent)
+        carried = {"header": attributes["header"]} if "header" in attributes else None
+        child.run = self.server.runs.start(kind["name"], child.workflow_id, attributes.get("input"), parent, carried=carried)
         if child.run is None:
             del run.children[child.initiated]
             made = {**numbers, "workflowId": child.workflow_id, "cause": CAUSES["child"]}
@@ -54,7 +55,7 @@ class Relations:
         made = {"initiatedEventId": str(number), "workflowExecution": attributes["execution"]}
         if other is None:
             return run.come_in("SignalExternalWorkflowExecutionFailed", {**made, "cause": CAUSES["signal"]})
-        self.server.runs.signal(other, attributes["signalName"], attributes.get("input"))
+        self.server.runs.send_signal(other, attributes["signalName"], attributes.get("input"))
         run.come_in("ExternalWorkflowExecutionSignaled", made)
 
     def child_closed(self, run, attributes):

@@ -13,8 +13,6 @@ class Runs:
     def __init__(self, server):
         self.server = server
         self.all, self.by_id, self.open = [], {}, set()
-        # Whether the payloads of some data come from clients with a codec: two that are encrypted never have the same data.
-        self.are_coded = {}
 
     def start(self, kind, workflow_id, input=None, parent=None, queue=None, continued=None, carried=None):
         """Starts a run, or returns None if one of this id is open."""
@@ -45,16 +43,18 @@ class Runs:
         return {"payloads": [self.coded_one(one) for one in input.get("payloads", [])]} if input else input
 
     def coded_one(self, one):
-        data = one.get("data", "")
-        if data not in self.are_coded:
-            self.are_coded[data] = self.server.troubles.happens("metadata")
-        return {**one, "metadata": {**one.get("metadata", {}), **OF_CODEC}} if self.are_coded[data] else one
+        has_codec = self.server.troubles.happens("metadata")
+        return {**one, "metadata": {**one.get("metadata", {}), **OF_CODEC}} if has_codec else one
 
     # What comes to a run.
 
     def signal(self, run, name, input=None):
+        """Sends the signal of a client."""
+        self.send_signal(run, name, self.coded(input))
+
+    def send_signal(self, run, name, input):
         if run.closed is None:
-            run.come_in("WorkflowExecutionSignaled", left_out({"signalName": name, "input": self.coded(input)}))
+            run.come_in("WorkflowExecutionSignaled", left_out({"signalName": name, "input": input}))
 
     def request_cancel(self, run):
         if run.closed is None and not run.is_canceled:

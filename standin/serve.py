@@ -7,6 +7,9 @@ import random
 import signal
 import sys
 import time
+from pathlib import Path
+
+import grpc
 
 from grpc_front import Calls
 from peers import Settings
@@ -14,6 +17,10 @@ from server import Server
 from troubles import Troubles, names_of
 from workflows import Orders, Own, Samples
 from world import World
+
+
+# A message of more than a MiB is too large, where a server takes four.
+OPTIONS = [("grpc.max_receive_message_length", 1 << 20)]
 
 
 class Served(Own):
@@ -31,6 +38,8 @@ def options():
     parser.add_argument("--trouble", type=names_of, default="none", help="as for tests/loops.py")
     parser.add_argument("--seed", type=int, default=1)
     parser.add_argument("--policies", action="store_true", help="the workers have policies, which are not looked at")
+    parser.add_argument("--tls", nargs=2, type=Path, metavar="FILE", help="a private key and its certificate")
+    parser.add_argument("--api-key", help="the key that each call has to show")
     return parser.parse_args()
 
 
@@ -46,7 +55,8 @@ def main():
     server = Server(settings, troubles, World(troubles, workflows, 0, 0, True))
     server.queries.follow_tasks = True
     calls = Calls(server, is_open=True)
-    calls.listen(asked.port)
+    calls.api_key = asked.api_key
+    calls.listen(asked.port, OPTIONS, asked.tls and grpc.ssl_server_credentials([[file.read_bytes() for file in asked.tls]]))
     signal.signal(signal.SIGTERM, stop)
     print(calls.port, flush=True)
     begun = time.monotonic()

@@ -24,7 +24,7 @@ KINDS = {
     "beaten": (0.40, "a signal or a cancel comes as an activity beats"),
     "late": (0.30, "the event of an activity's start is written at once, and not only with that of its end"),
     "speculative": (0.50, "an update gives a run a task whose events are not written"),
-    "metadata": (0.30, "what comes to a run has metadata of a codec, which a worker has to keep (not in `all`)"),
+    "metadata": (0.30, "a payload that comes to a run has metadata of a codec, or its start a header: a worker has to hand both on"),
     "strangers": (0.03, "a run of a type that the workers have no code for"),
     "outside": (0.10, "a run is terminated, times out or is asked to be canceled"),
     "busy": (0.03, "an answer or a call for a page gets code 8 and is not taken, so that it is tried again (gRPC alone)"),
@@ -32,9 +32,8 @@ KINDS = {
     "dead": (0.01, "a second in which a connection goes dead: nothing goes through, and nobody closes it (gRPC alone)"),
     "away": (0.05, "a second after which the server is away for some (gRPC alone)"),
 }
-# Not in `all`: what a bridge never does (`open`), and what is wrong where a payload that a table makes itself has the same data as
-# one that came: it gets the metadata of that one too, which is not expected here (`metadata`).
-NOT_IN_ALL = ("open", "metadata")
+# Not in `all`: what a bridge never does.
+NOT_IN_ALL = ("open",)
 
 
 class Troubles:

@@ -24,6 +24,8 @@ CARRIED = {
         "indexedFields": {"City": {"metadata": {"encoding": "anNvbi9wbGFpbg==", "type": "S2V5d29yZA=="}, "data": "IlBhcmlzIg=="}}
     },
 }
+# The header of a run whose client traces it, which the run's activities and children get too.
+HEADER = {"fields": {"trace": {"metadata": {"encoding": "anNvbi9wbGFpbg==", "kind": "dHJhY2U="}, "data": "IjAwLTFhMmIi"}}}
 NOISE = ("noise", [1, "two"])
 # How many signals a workflow of one's own gets until it has to be closed, and how many milliseconds pass between two.
 MOST_SIGNALS, SIGNAL_GAPS = 40, (100, 10 * SECOND, 600 * SECOND, DAY, 20 * DAY)

@@ -1,6 +1,6 @@
 """What happens around the workflows: when runs start, what their activities do, and what comes from outside."""
 
-from workflows import DAY, SAID_OF_STRANGE, SECOND, STRANGE, payloads
+from workflows import DAY, HEADER, SAID_OF_STRANGE, SECOND, STRANGE, payloads
 
 
 class Once:
@@ -44,6 +44,8 @@ class World:
             self.watch(self.server.runs.start(*companion))
         workflow_id = f"{kind.lower()}-{number}"
         input, carried = self.workflows.input(kind, number, workflow_id), self.workflows.carried()
+        if self.troubles.happens("metadata"):
+            carried["header"] = HEADER
         self.watch(self.server.runs.start(kind, workflow_id, input, carried=carried))
 
     def watch(self, run):
@@ -179,7 +181,7 @@ class World:
         if activity.canceled and self.dice.random() < 0.7:
             return "ActivityTaskCanceled", {}
         if end == "Completed":
-            result = activity.input if activity.input else payloads(activity.kind)
+            result = self.server.runs.coded(activity.input or payloads(activity.kind))
             return "ActivityTaskCompleted", {"result": result} if self.dice.random() < 0.9 else {}
         return "ActivityTask" + end, {"failure": {"message": "as it was planned"}}
 

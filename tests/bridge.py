@@ -18,11 +18,12 @@ import threading
 import time
 from collections import Counter
 from concurrent.futures import ThreadPoolExecutor
+from contextlib import contextmanager
 from pathlib import Path
 
 import support
 from rows import TOP, Tries, has, same, soon
-from support import ACTIVITY, ANSWER, LIMIT_SECONDS, PAGE, TASK, Bridge, base64_of, free_port, outcome, page_of
+from support import ACTIVITY, ANSWER, HEARTBEAT, LIMIT_SECONDS, PAGE, TASK, Bridge, base64_of, free_port, outcome, page_of
 
 os.environ.setdefault("GRPC_VERBOSITY", "NONE")
 support.take_packages("the bridge needs")
@@ -106,7 +107,7 @@ def by_token(message, context, count):
 
 
 POLL = {"namespace": "default", "taskQueue": {"name": "q"}, "identity": "me"}
-END, HEARTBEAT = "RespondActivityTask", "RecordActivityTaskHeartbeat"
+END = "RespondActivityTask"
 
 
 def answer_to(token):
@@ -563,6 +564,16 @@ PollNestRequest = PollNestResponse = make(found)
 """
 
 
+@contextmanager
+def made_package(text):
+    """A folder with a package of messages, of this text."""
+    with tempfile.TemporaryDirectory() as path:
+        module = Path(path, "temporalio/api/workflowservice/v1.py")
+        module.parent.mkdir(parents=True)
+        module.write_text(text.format(standin=str(TOP / "standin")))
+        yield path
+
+
 def nest(fields):
     """The bytes of such a message, by the numbers of the fields from outside to inside."""
     held = b""
@@ -577,16 +588,13 @@ def nest(fields):
 def response_too_deep():
     """A response that nests as deep as a host reads is given, and one that nests deeper is code 13. The line and the result
     are two levels, each list with its object two more."""
-    with tempfile.TemporaryDirectory() as path:
-        module = Path(path, "temporalio/api/workflowservice/v1.py")
-        module.parent.mkdir(parents=True)
-        module.write_text(NESTING.format(standin=str(TOP / "standin")))
-        replies = iter([nest([1] * 62 + [2]), nest([1] * 63)])
-        with Server({"PollNest": lambda *_: next(replies)}) as server, Bridge(server.port, path=path) as bridge:
-            result = bridge.answered("PollNest", {})
-            same("brackets", sum(map(json.dumps(result).count, "{[")), 126)
-            same("outcome", bridge.answered("PollNest", {}), (13, "a response of more than 127 levels"))
-            bridge.done()
+    replies = iter([nest([1] * 62 + [2]), nest([1] * 63)])
+    rules = {"PollNest": lambda *_: next(replies)}
+    with made_package(NESTING) as path, Server(rules) as server, Bridge(server.port, path=path) as bridge:
+        result = bridge.answered("PollNest", {})
+        same("brackets", sum(map(json.dumps(result).count, "{[")), 126)
+        same("outcome", bridge.answered("PollNest", {}), (13, "a response of more than 127 levels"))
+        bridge.done()
 
 
 # What goes beside a call, and the command's words.
@@ -1151,6 +1159,24 @@ def packages_that_are_missing():
         has(f"said for {words}", getattr(ran, stream), text)
 
 
+# A package whose answers tell of no discarded task.
+OLD = """
+import sys
+sys.path.insert(0, {standin!r})
+from definitions import CLASSES
+globals().update(CLASSES)
+RespondWorkflowTaskCompletedResponse = RespondWorkflowTaskFailedResponse
+"""
+
+
+def package_that_is_too_old():
+    """A package that does not know resetHistoryEventId is refused before any call, with what to do."""
+    with made_package(OLD) as path, Server() as server, Bridge(server.port, path=path) as bridge:
+        what = "it does not know resetHistoryEventId, by which a server says that it has discarded a task"
+        same("said", bridge.end(2), f"temporal_bridge: this package temporalio is too old: {what}: pip install --upgrade temporalio\n")
+        same("calls", dict(server.calls), {})
+
+
 TRIES = [
     answers_of_activities,
     answers_not_for_long,
@@ -1201,6 +1227,7 @@ TRIES = [
     interrupted_at_the_start,
     ends_of_a_worker,
     packages_that_are_missing,
+    package_that_is_too_old,
 ]
 LONG = [dead_connection, polls_that_hang, long_answer_of_an_activity, answer_of_an_activity_at_a_shutdown]
 

@@ -51,9 +51,14 @@ def sources(crate="*", ending="rt"):
     return [file.read_text(encoding="utf-8") for file in sorted(TOP.glob(f"crates/{crate}/{folder}/**/*.{ending}"))]
 
 
+def sources_with(name, crate, ending="rt"):
+    """Returns those of the sources of a crate, or of all, in which a name stands."""
+    return [text for text in sources(crate, ending) if name in text]
+
+
 def heads(name, crate):
     """Yields the text of each item of a name: a function up to its body, a type or trait with its body and its impls."""
-    for text in sources(crate):
+    for text in sources_with(name, crate):
         code = code_of(text)
         for found in re.finditer(ITEM.format(name), code):
             begin = body_of(code, found.end())
@@ -65,7 +70,7 @@ def heads(name, crate):
 
 def definitions(name, crate):
     """Yields the text of each definition of a name, up to the blank line behind it."""
-    for text in sources(crate, "antt"):
+    for text in sources_with(name, crate, "antt"):
         for found in re.finditer(rf"^(?:abbrev )?pub (?:record )?{name}\b.*?(?=\n\n|\Z)", text, re.DOTALL | re.MULTILINE):
             yield found[0]
 
@@ -83,7 +88,7 @@ def texts_of(name, crate):
     if "::" in name:
         return [*methods(*name.split("::"), crate)]
     own = [*heads(name, crate), *definitions(name, crate)]
-    ghosts = [text for text in sources(crate) if re.search(rf"\bghost {name}\s*[:=]", text)] if not own else []
+    ghosts = [text for text in sources_with(name, crate) if re.search(rf"\bghost {name}\s*[:=]", text)] if not own else []
     return own + ghosts
 
 

@@ -10,7 +10,8 @@ import tempfile
 import threading
 from pathlib import Path
 
-CRATES = Path(__file__).resolve().parent.parent / "crates"
+TOP = Path(__file__).resolve().parent.parent
+CRATES = TOP / "crates"
 # What a check reads of a crate.
 PARTS = ("src", "specs", "proofs")
 # Has a command join a group of processes, and not ignore the signals that Python ignores.
@@ -125,7 +126,7 @@ class Crate:
     def build(self):
         """Builds its library, and those below it."""
         say(f"{self.name}: building its library")
-        ran, _ = COMMANDS.run(["rt", "lib", "--jobs", "1"], self.folder)
+        ran, _ = COMMANDS.run([sys.executable, "-B", TOP / "quick_rt.py", "lib", "--jobs", "1"], self.folder)
         if ran.returncode:
             raise Wrong(f"the library {self.name} is not built:\n{ran.stdout[-2000:]}")
         # Where rt found that it is as its sources are, it is not asked again.

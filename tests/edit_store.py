@@ -7,10 +7,11 @@ import tempfile
 import time
 from pathlib import Path
 
-from edit_crates import CRATES, PARTS
+from edit_crates import CRATES, PARTS, TOP
 
 # The code by which an edit is judged.
-JUDGES = [Path(__file__).with_name(name) for name in ("edits.py", "edit_crates.py", "edit_store.py", "edit_trial.py", "rust_items.py")]
+SCRIPTS = ("edits.py", "edit_crates.py", "edit_store.py", "edit_trial.py", "rust_items.py", "../quick_rt.py")
+JUDGES = [TOP / "tests" / name for name in SCRIPTS]
 # The most entries, of a few hundred bytes each.
 MOST = 20_000
 

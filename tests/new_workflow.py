@@ -51,9 +51,13 @@ def made(folder):
         yield f"the files of {crate}", "" if found == files else f"they are {found}"
         left = [file for file in found if re.search(r"\breminder\b|Reminder|REMINDER", (place / file).read_text())]
         yield f"the name in {crate}", "" if not left else f"another one stands in {left}"
-    listed = re.findall(r"^(\w+):", (folder / "crates.txt").read_text(), re.MULTILINE)
+    listed = re.findall(r"^(\w+):(.*)", (folder / "crates.txt").read_text(), re.MULTILINE)
     there = sorted(one.name for one in (folder / "crates").iterdir())
-    yield "crates.txt", "" if sorted(listed) == there else f"it has {listed}"
+    yield "crates.txt", "" if sorted(name for name, _ in listed) == there else f"it has {listed}"
+    for crate in OWN:
+        sources = "".join(file.read_text() for file in (folder / "crates" / crate / "src").iterdir())
+        lacking = {*re.findall(r"^use (\w+)::", sources, re.MULTILINE)} - {"std", "crate", *dict(listed)[crate].split()}
+        yield f"the line of {crate}", "" if not lacking else f"it lacks {sorted(lacking)}"
 
 
 def tried(folder, has_program):

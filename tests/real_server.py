@@ -12,6 +12,8 @@ It reads the pages of the bridge (--listen). Then it tries the bridge alone, as 
 policy that no server takes, and the result of an activity while the way to the server is away for a quarter of a minute. And it
 tries the program behind a proxy that makes trouble: polls that are refused or late, responses that are lost, pages that are
 refused, events of unknown types, and connections that end.
+It asks for what only a server can tell: whether heartbeats come back in a later attempt, what becomes of payloads of a codec, of an
+update and of an answer that is too large, what it says of a policy that only it can refuse, and with --api-key-file of a bad key.
 Then it fetches each history by GetWorkflowExecutionHistory, writes it to a file in the form of the Temporal CLI, and
 replays the folder with the program. The last line is `N runs, N closed, 0 wrong`, and the exit status is 1 if anything is
 wrong. Children, and runs that continue others as new, count as runs too. It uses task queues and workflow ids of its own,
@@ -38,7 +40,7 @@ from pathlib import Path
 
 import support
 from rows import PROGRAM, Wrong, soon
-from support import ANSWER, CALL_SECONDS, NOT_FOUND, PAGE, RESULT, STAND_IN, TASK, Client, free_port, page_of, payloads
+from support import ANSWER, CALL_SECONDS, HEARTBEAT, NOT_FOUND, PAGE, RESULT, STAND_IN, TASK, Client, free_port, page_of, payloads
 
 from history import CARRIED_OVER
 from messages import attributes_name
@@ -49,16 +51,19 @@ END_SECONDS, REPLAY_SECONDS = 30, 600
 # How long the way to the server is away, and how long a poll of the bridge alone may take.
 AWAY_SECONDS, TASK_SECONDS = 15, 90
 INVALID, DEADLINE, DENIED, UNAUTHENTICATED = 3, 4, 7, 16
-# A retry policy that no server takes.
+# A retry policy that no server takes, and the name of a Task Queue that is too long for one.
 BAD_POLICY = {"initialInterval": "60s", "maximumInterval": "10s", "maximumAttempts": 2}
+LONG_NAME = "x" * 1_001
 # What the stand-in says against what this trial itself does.
-OWN_FAULTS = ("retryPolicy is ", "one more answer to ", "EVENT_TYPE_999")
+OWN_FAULTS = ("MaximumInterval cannot be ", "one more answer to ", "EVENT_TYPE_999", "larger than max", f"the task queue is {LONG_NAME}")
 SAMPLES = ("Nap", "Greet", "Branch", "Family", "Racer", "Caller", "Relay")
 # The signals and the cancels that some runs of a type get: how often, and which signal.
 SIGNALS = {"Family": (0.5, "stop"), "Order": (1.0, "cancel"), "Nap": (0.3, "noise"), "Relay": (0.3, "noise")}
 CANCELS = {"Greet": 0.3}
 # The queries that runs of a type answer, with all answers, of which the last one is that of a closed run.
 QUERIES = {"Order": ("status", ['"charging"', '"held"', '"shipping"', '"closed"']), "Racer": ("phase", ['"racing"', '"late"', '"done"'])}
+# The queries that are reserved, and what the second of them gives.
+METADATA, TRACE, NO_TRACE = "__temporal_workflow_metadata", "__stack_trace", "There is no stack trace: "
 # The options that the bridge is given as they are, beside --tls.
 BRIDGE_OPTIONS = ("--tls-cert", "--tls-key", "--tls-ca", "--tls-server-name", "--api-key", "--api-key-file")
 CHILD = "childWorkflowExecutionStartedEventAttributes"
@@ -66,8 +71,28 @@ STARTED, CONTINUED = "workflowExecutionStartedEventAttributes", "workflowExecuti
 # The event of a signal, the number of a type that no package knows, and what a query gives of a type that no run knows.
 SIGNALED, UNKNOWN_TYPE, UNKNOWN_QUERY = 26, 999, "unknown query type weather; known: none"
 # The trouble that a proxy makes, in this order; and what is left out, and why.
-TROUBLES = ("refused_polls", "late_polls", "lost_responses", "refused_pages", "unknown_events", "busy_runs")
+TROUBLES = ("refused_polls", "late_polls", "lost_responses", "refused_pages", "unknown_events", "busy_runs", "payloads_of_a_codec",
+            "discarded_tasks", "large_answers")
 LEFT_OUT = {}
+# A payload of a codec.
+CODED = {"metadata": {"encoding": b"binary/encrypted", "encryption-key-id": b"key-7"}, "data": b"\0\1secret"}
+# Tables: one that hands its input on to an activity that nobody knows, and as its result; one whose first answer has its input three
+# times; and one that has labels printed.
+HANDS_ON = [["asked", "start", "", "activity a Nobody input"], ["asked", "failed a", "", "complete input"]]
+THREE_TIMES = [["asked", "start", "", [f"activity {name} Nobody input" for name in "abc"]]]
+PRINTS = [["asked", "start", "", "activity a PrintLabels input"], ["asked", "done a", "", "complete brought"]]
+# The bytes of an input of which a server's message does not hold three, nor one of the stand-in; and how many labels are printed.
+LARGE_INPUT, LARGE_FOR_STAND_IN, LABELS = 3 << 19, 3 << 17, 200
+# What is asked of a server with the activities of the tables and of Greet: the last is refused by it alone.
+POLICIES = """
+[activity.PrintLabels]
+task_queue = "{}"
+start_to_close = 60
+heartbeat = 30
+
+[activity.greet]
+task_queue = "{}"
+"""
 # Each channel has a connection of its own, and takes messages of any size.
 CHANNEL_OPTIONS = (("grpc.use_local_subchannel_pool", 1), ("grpc.max_receive_message_length", -1))
 # For how many seconds the proxy lets a poll wait; after how many milliseconds it ends a connection, and its calls.
@@ -93,6 +118,18 @@ def beside_of(asked):
     return [("temporal-namespace", asked.namespace), *([("authorization", f"Bearer {key.strip()}")] if key else [])]
 
 
+def table_of(rows):
+    """The table of a run."""
+    return {"version": 1, "rows": rows}
+
+
+def header_of(client):
+    """The header of a run that is traced."""
+    header = client.messages.StartWorkflowExecutionRequest().header
+    header.fields["trace"].metadata["encoding"], header.fields["trace"].data = b"json/plain", b'"00-1a2b"'
+    return header
+
+
 def with_memo(client):
     """What a run begins with beside its input: a memo of one value, and a retry policy by which it is not tried again."""
     memo = client.messages.StartWorkflowExecutionRequest().memo
@@ -109,14 +146,14 @@ def options_of(asked):
 class Worker:
     """A bridge with a worker behind it."""
 
-    def __init__(self, asked, address, program, queue, options=None, cache=10):
-        """`options` are those of the bridge, if they are not those for the server."""
+    def __init__(self, asked, address, program, queue, options=None, cache=10, more=()):
+        """`options` are those of the bridge, if they are not those for the server, and `more` are options of the worker."""
         self.room, self.port = tempfile.TemporaryDirectory(), free_port()
         metrics = f"{self.room.name}/worker.prom"
         words = [sys.executable, str(asked.bridge), "--address", address, *(options or options_of(asked))]
         words += ["--listen", f"127.0.0.1:{self.port}", "--worker-metrics", metrics]
         words += ["--", *program, "work", "--task-queue", queue, "--namespace", asked.namespace, "--identity", "{identity}"]
-        words += ["--activity-workers", "2", "--cache", str(cache), "--sticky-timeout", "5", "--metrics", metrics]
+        words += ["--activity-workers", "2", "--cache", str(cache), "--sticky-timeout", "5", "--metrics", metrics, *more]
         self.words, self.said, self.child = words, tempfile.TemporaryFile(), None
 
     def start(self):
@@ -146,13 +183,18 @@ class Worker:
 
     def faults_of_pages(self):
         """What is wrong with the pages of a worker that polls."""
-        until, pages = time.monotonic() + CALL_SECONDS, {}
+        until, pages = time.monotonic() + TASK_SECONDS, {}
         while time.monotonic() < until and pages.get("/ready", (0, ""))[0] != 200:
             time.sleep(0.5)
             pages = {path: page_of(self.port, path) for path in ("/live", "/ready", "/metrics")}
         faults = [f"{path} gives {status} {text!r}" for path, (status, text) in pages.items() if status != 200]
         names = ('temporal_request_total{', 'temporal_long_request_latency_seconds_count{', 'operation="GetSystemInfo"')
         return faults + [f"/metrics is without {name}" for name in names if name not in pages["/metrics"][1]]
+
+    def calls_of(self, method):
+        """How often its bridge has made a call."""
+        text = page_of(self.port, "/metrics")[1]
+        return sum(float(line.rpartition(" ")[2]) for line in text.splitlines() if re.match(rf'temporal_request_total{{.*"{method}"', line))
 
     def report(self):
         """What it has said on standard error."""
@@ -179,7 +221,12 @@ class Alone:
         self.same = {"namespace": asked.namespace, "identity": f"{queue}-alone"}
         self.may_repeat = not asked.stand_in  # It takes a second answer for a fault.
         self.sticky = {"kind": "TASK_QUEUE_KIND_STICKY", "name": f"{queue}-alone:{queue}", "normalName": queue}
-        self.port, words = free_port(), options_of(asked)
+        self.room = tempfile.TemporaryDirectory()
+        self.port, self.key, words = free_port(), None, options_of(asked)
+        if asked.api_key_file:
+            self.key, at = Path(self.room.name, "api-key"), words.index("--api-key-file") + 1
+            self.key.write_text(Path(words[at]).read_text())
+            words[at] = str(self.key)
         if len(words) > 2 and not asked.tls_server_name:
             words += ["--tls-server-name", host]
         words += ["--poll-grace", "2", "--listen", f"127.0.0.1:{self.port}"]
@@ -194,6 +241,9 @@ class Alone:
                 self.schedule()
                 self.end_activity()
                 self.complete()
+                self.beat()
+                if self.key:
+                    self.turn_keys()
                 for path in ("/live", "/ready"):
                     self.see(path, page_of(self.port, path)[0], 200)
                 failed = 'temporal_request_failure_total{namespace="%s",operation="RespondActivityTaskCompleted",status_code="UNAVAILABLE"}'
@@ -264,6 +314,47 @@ class Alone:
             self.see("a second result", self.bridge.answered(RESULT, params)[:1], (NOT_FOUND,))
             self.see("it is refused at once", time.monotonic() - begun < CALL_SECONDS / 2, True)
 
+    def beat(self):
+        """An activity of a run of its own, which sends heartbeats: a later attempt gets the details of the last one, and a cancel
+        comes as the response to one."""
+        execution = self.client.start("Greet", f"{self.queue}-heartbeats", self.queue, payloads("bridge"))
+        attributes = {"activityId": "1", "activityType": {"name": "PrintLabels"}, "input": self.input, "taskQueue": {"name": self.queue}}
+        attributes.update(startToCloseTimeout="60s", heartbeatTimeout="30s", retryPolicy={"initialInterval": "1s", "maximumAttempts": 3})
+        self.see("an answer", self.answer(self.poll("Workflow"), "SCHEDULE_ACTIVITY_TASK", attributes), {})
+        task, failure = self.poll("Activity"), {"message": "later", "source": "trial", "applicationFailureInfo": {"type": "Later"}}
+        self.see("the heartbeat timeout", task.get("heartbeatTimeout"), "30s")
+        self.see("a heartbeat", self.end(task, HEARTBEAT, details=self.input), {})
+        self.see("a failure", self.end(task, "RespondActivityTaskFailed", failure=failure), {})
+        task = self.poll("Activity")
+        self.see("the second attempt", [task.get(name) for name in ("attempt", "heartbeatDetails")], [2, self.input])
+        self.client.signal(execution, "noise")
+        cancel = {"scheduledEventId": self.number_of(execution, "ACTIVITY_TASK_SCHEDULED")}
+        self.see("an answer", self.answer(self.poll("Workflow", self.sticky), "REQUEST_CANCEL_ACTIVITY_TASK", cancel), {})
+        self.see("the heartbeat after a cancel", self.end(task, HEARTBEAT), {"cancelRequested": True})
+        self.see("the activity is canceled", self.end(task, "RespondActivityTaskCanceled"), {})
+        self.answer(self.poll("Workflow", self.sticky), "COMPLETE_WORKFLOW_EXECUTION", {})
+
+    def turn_keys(self):
+        """Where the bridge's copy of the key turns bad, its calls are refused, and once it is good again they are not."""
+        good = self.key.read_text()
+
+        def outcome():
+            found = self.bridge.answered("GetSystemInfo", {})
+            return found[0] if isinstance(found, tuple) else "taken"
+
+        self.key.write_text("no-key")
+        soon("a bad key is refused", lambda: outcome() in (DENIED, UNAUTHENTICATED), TASK_SECONDS)
+        self.key.write_text(good)
+        soon("the good key is taken again", lambda: outcome() == "taken", TASK_SECONDS)
+
+    def end(self, task, method, **more):
+        """What comes of a call for an activity's task."""
+        return self.bridge.answered(method, {**self.same, "taskToken": task["taskToken"], **more})
+
+    def number_of(self, execution, kind):
+        """The number of the first event of a type."""
+        return next(event["eventId"] for event in self.client.history(execution) if event["eventType"] == f"EVENT_TYPE_{kind}")
+
     def complete(self):
         """The second task of the run, after which it is closed."""
         self.see("the end", self.answer(self.poll("Workflow", self.sticky), "COMPLETE_WORKFLOW_EXECUTION", {"result": self.input}), {})
@@ -316,11 +407,12 @@ class Trouble:
 
     # Runs.
 
-    def start(self, kind, *values):
-        """Starts a run."""
+    def start(self, kind, *values, coded=(), **more):
+        """Starts a run, with payloads of a codec after the JSON values."""
         self.count += 1
         workflow_id = f"{self.queue}-{self.count}"
-        execution = self.client.start(kind, workflow_id, self.queue, payloads(*values), **with_memo(self.client))
+        input = {"payloads": [*payloads(*values)["payloads"], *coded]}
+        execution = self.client.start(kind, workflow_id, self.queue, input, **with_memo(self.client), **more)
         self.trial.executions[workflow_id] = (self.trial.services[0], kind, execution)
         return execution
 
@@ -394,7 +486,13 @@ class Trouble:
 
     def busy_runs(self):
         """A query of a run that always has a task is answered with one of them."""
-        self.plan.add(ANSWER, self.slow(0.3))
+        results = []
+
+        def note(call):
+            results.extend(self.client.messages.RespondWorkflowTaskCompletedRequest.FromString(call.request).query_results)
+            return self.slow(0.3)(call)
+
+        self.plan.add(ANSWER, note)
         execution, is_over = self.start("Nap"), threading.Event()
         self.wait("the nap begins", lambda: "TIMER_STARTED" in self.types(execution))
 
@@ -407,9 +505,123 @@ class Trouble:
         try:
             time.sleep(1)
             self.see("the query of a busy run", UNKNOWN_QUERY in self.client.query(execution, "weather", 5), True)
+            given = [self.client.query(execution, TRACE, 5) for _ in range(3)]
+            self.see("the queries for a trace", [one for one in given if NO_TRACE not in one], [])
         finally:
             is_over.set()
             signals.join()
+        self.see("queries came with a task", results != [], True)
+        self.client.terminate(execution)
+
+    # What a server makes of what is sent.
+
+    def attributes(self, execution, kind):
+        """The attributes of the first event of a type."""
+        kind, found = f"EVENT_TYPE_{kind}", self.client.history(execution)
+        return next((event.get(attributes_name(kind[11:]).replace("Command", "Event"), {}) for event in found if event["eventType"] == kind), {})
+
+    def payloads_of_a_codec(self):
+        """A payload of a codec goes through a table with all its metadata, and the header of the start to an activity. That one is of
+        a type that nobody knows: it fails with a failure of a type, and is not tried again."""
+        header = header_of(self.client)
+        execution = self.start("Table", table_of(HANDS_ON), coded=[CODED], header=header)
+        self.are_closed([execution])
+        coded = {"payloads": self.attributes(execution, "WORKFLOW_EXECUTION_STARTED")["input"]["payloads"][1:]}
+        self.see("the metadata", "encryption-key-id" in coded["payloads"][0]["metadata"], True)
+        scheduled = self.attributes(execution, "ACTIVITY_TASK_SCHEDULED")
+        self.see("the input of an activity", scheduled.get("input"), coded)
+        self.see("its header", scheduled.get("header"), self.client.json.MessageToDict(header))
+        self.see("the result of the run", self.attributes(execution, "WORKFLOW_EXECUTION_COMPLETED").get("result"), coded)
+        failure = self.attributes(execution, "ACTIVITY_TASK_FAILED").get("failure", {})
+        self.see("the failure", failure.get("applicationFailureInfo"), {"type": "NotFoundError", "nonRetryable": True})
+
+    def discarded_tasks(self):
+        """An update, which no program here knows, gives an idle run a task that the server discards: the run goes on without it."""
+        numbers = []
+
+        def note(result):
+            numbers.append(self.client.messages.RespondWorkflowTaskCompletedResponse.FromString(result or b"").reset_history_event_id)
+            return result
+
+        self.plan.add(ANSWER, self.changed(note))
+        execution = self.start("Nap")
+        self.wait("the nap begins", lambda: "TIMER_STARTED" in self.types(execution))
+        before = self.types(execution)
+        try:
+            self.client.update(execution, "nothing")
+        except Wrong as why:
+            print(f"behind a proxy discarded_tasks: the server refuses updates: {why}", flush=True)
+        else:
+            self.wait("a task is discarded", lambda: any(numbers))
+            self.see("the events after that", self.types(execution), before)
+            self.client.signal(execution, "noise")
+            self.wait("the task after a signal", lambda: "WORKFLOW_TASK_COMPLETED" in self.types(execution)[len(before) :])
+            self.see("a query after that", NO_TRACE in self.client.query(execution, TRACE), True)
+        self.client.terminate(execution)
+
+    def large_answers(self):
+        """An answer that is too large for the server fails its task once. What the server makes of the run then is printed."""
+        size = LARGE_FOR_STAND_IN if self.trial.asked.stand_in else LARGE_INPUT
+        execution = self.start("Table", table_of(THREE_TIMES), "x" * size)
+        # Each look at its history is a large one.
+        self.wait("the task is failed", lambda: time.sleep(1) or "WORKFLOW_TASK_FAILED" in self.types(execution))
+        cause = self.attributes(execution, "WORKFLOW_TASK_FAILED").get("cause")
+        self.see("the cause", cause, "WORKFLOW_TASK_FAILED_CAUSE_GRPC_MESSAGE_TOO_LARGE")
+        time.sleep(POLL_SECONDS)
+        is_open = self.client.is_open(execution)
+        print(f"after an answer that is too large the run is {'open' if is_open else self.types(execution)[-1]}", flush=True)
+        if is_open:
+            self.client.terminate(execution)
+
+
+class Policies:
+    """The program with policies: those of an activity that beats, and one that only a server can refuse."""
+
+    def __init__(self, trial):
+        self.trial, self.client, self.queue, self.wrong = trial, trial.client, trial.queue + "-policies", []
+        self.room = tempfile.TemporaryDirectory()
+        file = Path(self.room.name, "policies.toml")
+        file.write_text(POLICIES.format(trial.queue + "-orders", LONG_NAME))
+        self.worker = Worker(trial.asked, trial.address, trial.asked.program, self.queue, more=["--policies", str(file)])
+
+    def see(self, what, found, wanted):
+        if found != wanted:
+            self.wrong.append(f"with policies: {what}: {found!r}, not {wanted!r}")
+
+    def run(self):
+        """Tries them: what is wrong."""
+        self.worker.start()
+        try:
+            if self.trial.asked.orders:
+                self.print_labels(self.trial.services[1].worker)
+            self.refuse()
+        except Wrong as why:
+            self.wrong.append(f"with policies: {why}")
+        finally:
+            self.see("the status", self.worker.stop(), 0)
+        return self.wrong
+
+    def start(self, kind, *values):
+        """Starts a run."""
+        workflow_id = f"{self.queue}-{kind.lower()}"
+        execution = self.client.start(kind, workflow_id, self.queue, payloads(*values), **with_memo(self.client))
+        self.trial.executions[workflow_id] = (self.trial.services[0], kind, execution)
+        return execution
+
+    def print_labels(self, printer):
+        """A handler that prints many labels at once, and tells of each, sends few heartbeats, but some."""
+        before = printer.calls_of(HEARTBEAT)
+        execution = self.start("Table", table_of(PRINTS), *range(LABELS))
+        soon("the labels are printed", lambda: not self.client.is_open(execution), TASK_SECONDS)
+        self.see("the last event", self.client.history(execution)[-1]["eventType"], "EVENT_TYPE_WORKFLOW_EXECUTION_COMPLETED")
+        count = printer.calls_of(HEARTBEAT) - before
+        self.see(f"{count:.0f} heartbeats of {LABELS} labels are some, and few", 0 < count <= LABELS / 10, True)
+
+    def refuse(self):
+        """An activity for a Task Queue whose name is too long: the server refuses the answer, and that is told with the run."""
+        execution = self.start("Greet", "Ada")
+        line = rf"{re.escape(execution['workflow_id'])} {execution['run_id']}: .+ \(code {INVALID}\)"
+        soon("the refusal is told", lambda: re.search(line, self.worker.report()), TASK_SECONDS)
         self.client.terminate(execution)
 
 
@@ -476,6 +688,18 @@ class Trial:
             if not any(one in given for one in (right[-1:] if are_closed else right)):
                 self.wrong.append(f"the query {name} of {workflow_id} gives {given}")
             self.done["queries"] += 1
+        for kind, workflow_id in {kind: workflow_id for workflow_id, (_, kind, _) in self.executions.items()}.items():
+            self.ask_reserved(kind, {"workflow_id": workflow_id})
+
+    def ask_reserved(self, kind, execution):
+        """Asks a run for what a Web UI asks for."""
+        told, trace = (self.client.query(execution, name) for name in (METADATA, TRACE))
+        found = json.loads(told)["definition"] if told.startswith("{") else {}
+        names = [QUERIES[kind][0]] if kind in QUERIES else []
+        if found.get("type") != kind or [one["name"] for one in found.get("queryDefinitions", [])] != names:
+            self.wrong.append(f"the query {METADATA} of a {kind} gives {told}")
+        if NO_TRACE not in trace:
+            self.wrong.append(f"the query {TRACE} of a {kind} gives {trace}")
 
     def kill_workers(self):
         """Kills each bridge with its worker, and starts them again a little later."""
@@ -492,6 +716,10 @@ class Trial:
         execution = alone.run()
         self.executions[execution["workflow_id"]] = (self.services[0], "Greet", execution)
         self.wrong += alone.wrong
+
+    def try_policies(self):
+        """Tries the program with policies, by runs that are some of the samples then."""
+        self.wrong += Policies(self).run()
 
     def try_trouble(self):
         """Tries the program behind a proxy that makes trouble, by runs that are some of the samples then."""
@@ -538,6 +766,7 @@ class Trial:
             self.ask(are_closed=True)
             self.try_alone()
             self.try_trouble()
+            self.try_policies()
             self.say(", ".join(f"{count} {what}" for what, count in self.done.items()))
         except (Wrong, KeyboardInterrupt) as why:
             self.wrong.append(str(why) or "interrupted")
@@ -622,19 +851,35 @@ def is_closed(events):
 
 
 class StandIn:
-    """The stand-in as a server."""
+    """The stand-in as a server. With --api-key-file it asks for that key, over TLS."""
 
-    def __init__(self, queues):
+    def __init__(self, asked, queues):
         # So fast that its timers are short, and so slow that no activity times out while the way to it is away.
-        words = [sys.executable, str(STAND_IN / "serve.py"), "--task-queues", ",".join(queues), "--speed", "2"]
+        words = [sys.executable, str(STAND_IN / "serve.py"), "--task-queues", ",".join(queues), "--speed", "2", "--policies"]
+        self.room = tempfile.TemporaryDirectory()
+        if asked.api_key_file:
+            words += ["--tls", *self.certify(asked), "--api-key", Path(asked.api_key_file).read_text().strip()]
         self.child = subprocess.Popen(words, stdout=subprocess.PIPE, stderr=subprocess.PIPE, text=True)
         self.address = "127.0.0.1:" + self.child.stdout.readline().strip()
+
+    def certify(self, asked):
+        """Makes a private key and its certificate, which the bridge and the client take for the server's."""
+        key, cert = (f"{self.room.name}/{name}" for name in ("key.pem", "cert.pem"))
+        words = "req -x509 -newkey rsa:2048 -nodes -days 2 -subj /CN=localhost -addext subjectAltName=DNS:localhost"
+        subprocess.run(["openssl", *words.split(), "-keyout", key, "-out", cert], check=True, capture_output=True)
+        asked.tls_ca, asked.tls_server_name = cert, "localhost"
+        return key, cert
 
     def stop(self):
         """What it has to say against the workers."""
         self.child.terminate()
         _, said = self.child.communicate(timeout=END_SECONDS)
-        return [line for line in said.splitlines() if not any(fault in line for fault in OWN_FAULTS)]
+        kept, is_own = [], False
+        for line in said.splitlines():
+            # What came of the last tasks of a run follows a fault in lines of its own.
+            is_own = any(fault in line for fault in OWN_FAULTS) or is_own and line.startswith(" ")
+            kept += [] if is_own else [line]
+        return kept
 
 
 def options():
@@ -682,7 +927,7 @@ def main():
     if asked.stand_in:
         support.use_trimmed()
         asked.task_queue = asked.task_queue or "trial"
-        stand_in = StandIn([asked.task_queue + end for end in ("", "-orders", "-bridge", "-trouble")])
+        stand_in = StandIn(asked, [asked.task_queue + end for end in ("", "-orders", "-bridge", "-trouble", "-policies")])
     runs, closed, wrong = try_all(asked, stand_in.address if stand_in else asked.address)
     wrong += stand_in.stop() if stand_in else []
     for what in wrong:

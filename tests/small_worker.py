@@ -14,6 +14,7 @@ import argparse
 import base64
 import json
 import random
+import re
 import sys
 from pathlib import Path
 
@@ -21,7 +22,7 @@ TOP = Path(__file__).resolve().parent.parent
 sys.path[:0] = [str(TOP / "standin"), str(TOP / "tests")]
 sys.dont_write_bytecode = True
 
-from courses import Course, Fault, built_in, payloads_in  # noqa: E402
+from courses import Course, Fault, built_in, handed_on, noted_in, payloads_in  # noqa: E402
 from programs import PROGRAMS  # noqa: E402
 from table_runs import TableProgram  # noqa: E402
 
@@ -29,7 +30,10 @@ PLAIN = base64.b64encode(b"json/plain").decode()
 FAILED, ANSWERED = "QUERY_RESULT_TYPE_FAILED", "QUERY_RESULT_TYPE_ANSWERED"
 NON_DETERMINISTIC = "WORKFLOW_TASK_FAILED_CAUSE_NON_DETERMINISTIC_ERROR"
 UNHANDLED = "WORKFLOW_TASK_FAILED_CAUSE_WORKFLOW_WORKER_UNHANDLED_FAILURE"
+TOO_LARGE = "WORKFLOW_TASK_FAILED_CAUSE_GRPC_MESSAGE_TOO_LARGE"
 NOT_FOUND, INVALID, CANCELLED = 5, 3, 1
+# Above so many labels a heartbeat is sent after each tenth alone.
+MANY_LABELS = 50
 # The codes of a poll that end the worker.
 REFUSALS = (INVALID, NOT_FOUND, 7, 16)
 
@@ -50,8 +54,19 @@ def payload(content, metadata=None):
     return {"data": base64.b64encode(content).decode(), "metadata": {"encoding": PLAIN} if metadata is None else metadata}
 
 
-def failure(message):
-    return {"applicationFailureInfo": {}, "message": message, "source": "wfhost"}
+def failure(message, **info):
+    return {"applicationFailureInfo": info, "message": message, "source": "wfhost"}
+
+
+def is_unknown(event):
+    """Whether an event is of a type without a name, which is not to be passed over."""
+    return re.fullmatch(r"EVENT_TYPE_\d+", event["eventType"]) and not event.get("workerMayIgnore")
+
+
+def queues_in(path):
+    """The Task Queues of activities in a file of policies, by their types, of which the empty one stands for all others."""
+    text = Path(path).read_text() if path else ""
+    return dict(re.findall(r'^\[activit(?:ies|y\.(\w+))\]\ntask_queue = "(.*)"', text, re.MULTILINE))
 
 
 def mark(value):
@@ -67,6 +82,7 @@ class Worker:
         self.cached, self.beating, self.is_stopped, self.counts = {}, set(), False, dict.fromkeys(NAMES, 0)
         self.status = 0
         self.sticky = f"{options.identity}:{options.task_queue}" if options.cache else None
+        self.queues = queues_in(options.policies)
 
     def call(self, method, params, then):
         self.last_id += 1
@@ -148,7 +164,7 @@ class Worker:
 
         def more(result, error):
             if error:
-                return self.give_up(task, again)
+                return self.give_up(task, error, again)
             events.extend(result.get("history", {}).get("events", []))
             if result.get("nextPageToken"):
                 return self.fetch(task, result["nextPageToken"], more)
@@ -177,7 +193,7 @@ class Worker:
 
         def then(result, error):
             if error:
-                return self.give_up(task, again)
+                return self.give_up(task, error, again)
             found.extend(result.get("history", {}).get("events", []))
             if result.get("nextPageToken"):
                 return self.fetch(task, result["nextPageToken"], then)
@@ -186,10 +202,12 @@ class Worker:
 
         self.fetch(task, None, then)
 
-    def give_up(self, task, again):
+    def give_up(self, task, error, again):
         if "query" in task:
             return self.respond_query(task, False, "the history can't be fetched", again)
         self.counts["failed"] += 1
+        self.status = 1
+        self.tell(task, error)
         again()
 
     # Answers.
@@ -198,6 +216,9 @@ class Worker:
         if "query" in task:
             return self.query(task, events, again)
         self.cached.pop(key, None)
+        unknown = next(filter(is_unknown, events), None)
+        if unknown:
+            return self.fail(task, f"event {unknown['eventId']} has the unsupported type {unknown['eventType']}", again)
         try:
             course = Course(begin)
             if events[-1]["eventType"] != "EVENT_TYPE_WORKFLOW_TASK_STARTED":
@@ -228,12 +249,21 @@ class Worker:
                 "kind": "TASK_QUEUE_KIND_STICKY", "name": self.sticky, "normalName": self.options.task_queue}}
 
         def then(result, error):
+            if error and "larger than max" in error["message"]:
+                return self.fail(task, error["message"], again, TOO_LARGE)
             self.note(error, "completed")
+            if error and error["code"] == INVALID:
+                self.tell(task, error)
             if error is None and self.sticky and "resetHistoryEventId" not in result:
                 self.cached[key] = events
             again()
 
         self.call("RespondWorkflowTaskCompleted", params, then)
+
+    def tell(self, task, error):
+        """Says why a call for a task has failed."""
+        ids = task["workflowExecution"]
+        print(f"{ids['workflowId']} {ids['runId']}: {error['message']} (code {error['code']})", file=sys.stderr)
 
     def is_wrong(self, kind):
         return self.options.wrong == kind and self.dice.random() < 0.05
@@ -241,6 +271,9 @@ class Worker:
     def given(self, course, query):
         """What a query gives at a course."""
         kind = query["queryType"]
+        if kind == "__temporal_workflow_metadata":
+            known = getattr(course.program, "known", "state")
+            return True, {"definition": {"queryDefinitions": [{"name": known}] if known != "none" else [], "type": course.kind}}
         if kind.startswith("__"):
             return built_in(kind)
         is_answered, given = course.program.query(kind, payloads_in(query, "queryArgs"))
@@ -269,11 +302,11 @@ class Worker:
         """Counts a task that ended so, if the server took its answer."""
         self.counts[outcome if error is None else "not found" if error["code"] == NOT_FOUND else "refused"] += 1
 
-    def fail(self, task, message, again):
+    def fail(self, task, message, again, cause=UNHANDLED):
         if int(task.get("attempt", 1)) > 1:
             self.counts["failed"] += 1
             return again()
-        params = {"cause": UNHANDLED, "failure": failure(message), "identity": self.options.identity, "taskToken": task["taskToken"]}
+        params = {"cause": cause, "failure": failure(message), "identity": self.options.identity, "taskToken": task["taskToken"]}
 
         def then(_, error):
             self.note(error, "failed")
@@ -287,6 +320,10 @@ class Worker:
         kept = [{name: value for name, value in one.metadata.items() if name == "encoding" or not is_wrong} for one in payloads]
         return {"payloads": [payload(*one) for one in zip(payloads, kept)]}
 
+    def queue_of(self, kind):
+        """The Task Queue of activities of a type."""
+        return {"name": self.queues.get(kind, self.queues.get("", self.options.task_queue))}
+
     def policy(self):
         policy = {"maximumAttempts": self.options.activity_attempts}
         return {"initialInterval": "60s", "maximumInterval": "10s"} if self.is_wrong("policy") else policy
@@ -294,18 +331,18 @@ class Worker:
     def written(self, command, events):
         """A command as JSON."""
         kind, words = command[0], command[1:]
-        queue = {"name": self.options.task_queue}
-        activity_queue = {"name": "till" if self.options.policies else self.options.task_queue}
+        queue, header = {"name": self.options.task_queue}, started(events, "header")
         kinds = {
             "StartActivity": lambda: ("SCHEDULE_ACTIVITY_TASK", {
                 "activityId": words[0], "activityType": {"name": words[1]}, "input": self.listed(words[2]), "retryPolicy": self.policy(),
-                "startToCloseTimeout": f"{self.options.activity_timeout}s", "taskQueue": activity_queue}),
+                "startToCloseTimeout": f"{self.options.activity_timeout}s", "taskQueue": self.queue_of(words[1]),
+                **header}),
             "CancelActivity": lambda: ("REQUEST_CANCEL_ACTIVITY_TASK", {"scheduledEventId": str(words[0])}),
             "StartTimer": lambda: ("START_TIMER", {"timerId": words[0], "startToFireTimeout": words[1]}),
             "CancelTimer": lambda: ("CANCEL_TIMER", {"timerId": words[0]}),
             "StartChild": lambda: ("START_CHILD_WORKFLOW_EXECUTION", {
                 "workflowId": words[0], "workflowType": {"name": words[1]}, "input": self.listed(words[2]), "taskQueue": queue,
-                "namespace": self.options.namespace}),
+                "namespace": self.options.namespace, **header}),
             "CancelChild": lambda: ("REQUEST_CANCEL_EXTERNAL_WORKFLOW_EXECUTION", {
                 "childWorkflowOnly": True, "namespace": self.options.namespace, "workflowId": words[0]}),
             "SignalExternal": lambda: ("SIGNAL_EXTERNAL_WORKFLOW_EXECUTION", {
@@ -317,7 +354,8 @@ class Worker:
             "Fail": lambda: ("FAIL_WORKFLOW_EXECUTION", {"failure": failure(words[0])}),
             "Cancel": lambda: ("CANCEL_WORKFLOW_EXECUTION", {}),
             "ContinueAsNew": lambda: ("CONTINUE_AS_NEW_WORKFLOW_EXECUTION", {
-                "workflowType": {"name": words[0]}, "input": self.listed(words[1]), "taskQueue": queue, **carried(events)}),
+                "workflowType": {"name": words[0]}, "input": self.listed(words[1]), "taskQueue": queue,
+                **started(events, "memo", "retryPolicy", "searchAttributes")}),
         }
         name, attributes = kinds[kind]()
         parts = [word.capitalize() for word in name.split("_")]
@@ -330,9 +368,11 @@ class Worker:
         self.counts["taken"] += 1
         kind, input = task["activityType"]["name"], task.get("input", {"payloads": []})
         if kind in ("ChargeCard", "Charge"):
-            return self.end(task, "completed", "Completed", {"result": input}, again)
+            given = [handed_on(one, noted_in(input)) for one in payloads_in(task, "input")]
+            return self.end(task, "completed", "Completed", {"result": self.listed(given)}, again)
         if kind != "PrintLabels":
-            return self.end(task, "completed", "Failed", {"failure": failure("no such activity")}, again)
+            unknown = failure("no such activity", type="NotFoundError", nonRetryable=True)
+            return self.end(task, "completed", "Failed", {"failure": unknown}, again)
         told = task.get("heartbeatDetails", {}).get("payloads", [])
         self.beat(task, int(base64.b64decode(told[0]["data"])) if told else 0, again)
 
@@ -350,9 +390,10 @@ class Worker:
             if result and result.get("cancelRequested") and not self.options.wrong == "taken":
                 details = {"payloads": [payload(b'"called off"')]}
                 return self.end(task, "completed", "Canceled", {"details": details}, again)
-            self.beat(task, beats + 1, again)
+            self.beat(task, told, again)
 
-        details = {"payloads": [payload(str(beats + 1).encode())]}
+        told = beats + 1 if labels <= MANY_LABELS else min(beats + 10, labels)
+        details = {"payloads": [payload(str(told).encode())]}
         if self.is_wrong("token"):
             params["taskToken"] = base64.b64encode(b"activity 1000000").decode()
         if self.is_wrong("beat"):
@@ -373,10 +414,10 @@ class Worker:
 NAMES = ("taken", "completed", "failed", "polls", "empty", "not found", "refused")
 
 
-def carried(events):
-    """What a Continue-As-New copies from the first event."""
+def started(events, *names):
+    """Those of these members that the first event has."""
     first = events[0]["workflowExecutionStartedEventAttributes"]
-    return {name: first[name] for name in ("memo", "retryPolicy", "searchAttributes") if name in first}
+    return {name: first[name] for name in names if name in first}
 
 
 def main():

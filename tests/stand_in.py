@@ -23,8 +23,8 @@ LOOPS, WORKER = TOP / "tests/loops.py", f"{sys.executable} {TOP / 'tests/small_w
 LIMIT_SECONDS = 300
 # The words of a loop, the mistake that its worker makes, and what the loop has to say then.
 ROWS = [
-    ("--tables --runs 100 --trouble all --queries --kill", "", "1 tried, 0 wrong"),
-    ("--orders --runs 100 --trouble all --queries --kill", "", "1 tried, 0 wrong"),
+    ("--tables --runs 100 --trouble all --queries --kill 4", "", "1 tried, 0 wrong"),
+    ("--orders --runs 100 --trouble all --queries --kill 4", "", "1 tried, 0 wrong"),
     ("--tables --runs 100 --trouble all --queries --till", "", "1 tried, 0 wrong"),
     ("--tables --runs 60 --trouble metadata", "", "1 tried, 0 wrong"),
     ("--tables --runs 400 --trouble metadata", "metadata", "it gives"),
@@ -130,7 +130,7 @@ def talked(words):
 
 
 def said(words, mistake):
-    command = [sys.executable, str(LOOPS), *words.split(), "--program", WORKER, "--limit", "60"]
+    command = [sys.executable, str(LOOPS), *words.split(), "--program", WORKER, "--limit", "120"]
     if "--till" in command:
         command.insert(command.index("--till") + 1, WORKER)
     if mistake:

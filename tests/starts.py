@@ -1,6 +1,7 @@
 #!/usr/bin/env python3
 """Tries `./wfhost` without rt: which program it takes for a command, when it starts that at once and when launcher.py builds it
-first, what launcher.py has a stand-in for rt do, how long it expects that to take, and that costs.txt names crates alone.
+first, what launcher.py has a stand-in for rt do, how long it expects that to take, how often quick_rt.py has a crate read, and
+that costs.txt names crates alone.
 
     tests/starts.py
 
@@ -17,6 +18,7 @@ from rows import TOP, difference, try_rows, words_of
 
 sys.path.insert(1, str(TOP))
 import launcher  # noqa: E402
+import quick_rt  # noqa: E402
 
 LIMIT_SECONDS = 60
 ALL, REPLAY, FILES, TABLES, SERVE = "wfhost", "wfhost_replay", "wfhost_files", "wfhost_tables", "wfhost_serve"
@@ -184,7 +186,7 @@ def builds():
     """Yields the rows of BUILDS, one after the other in one repository."""
     with tempfile.TemporaryDirectory() as made:
         folder = Path(made)
-        for file in ("wfhost", "launcher.py"):
+        for file in ("wfhost", "launcher.py", "quick_rt.py"):
             shutil.copy(TOP / file, folder / file)
         for file, text in (("crates.txt", CRATES_TXT), ("HANDLES", ""), ("costs.txt", ""), ("bin/rt", RT), ("notes", "")):
             (folder / file).parent.mkdir(exist_ok=True)
@@ -207,6 +209,30 @@ def builds():
         yield "the links among the crates", [], [str(one) for one in (folder / "crates").rglob("*") if one.is_symlink()]
 
 
+class Counted:
+    """A crate as rt has it, which counts how often its files are read for a sum."""
+
+    def __init__(self, name, *deps):
+        self.name, self.deps, self.reads = name, deps, 0
+
+    def stamp(self):
+        self.reads += 1
+        return f"{self.name}({' '.join(dep.stamp() for dep in self.deps)})"
+
+
+class CountedOnce(Counted):
+    stamp = quick_rt.once(Counted.stamp)
+
+
+def sums():
+    """Yields two sums of a crate from which two ways lead to the lowest, and how often that is read for both: by rt, and once for
+    each sum."""
+    for kind, reads in ((Counted, 4), (CountedOnce, 2)):
+        low = kind("low")
+        top = kind("top", kind("left", low), kind("right", low))
+        yield f"two sums of a {kind.__name__}", ("top(left(low()) right(low()))", reads), (top.stamp() and top.stamp(), low.reads)
+
+
 def tries():
     """Yields each row with what is wanted and what came."""
     for words, program in PROGRAMS:
@@ -217,6 +243,7 @@ def tries():
     for words in REFUSED:
         yield f"./wfhost {words}", ("", 2, 1), refused(words)
     yield from builds()
+    yield from sums()
     for text, lanes, seconds in SCHEDULES:
         yield f"{lanes} lanes for {text}", seconds, round(launcher.simulated(*table_of(text), lanes))
     for text, lanes, begun, seconds in BEGUN:

@@ -27,10 +27,13 @@ LIMIT_SECONDS = 30
 # For how long a client makes a call again, and after which codes.
 CALL_SECONDS, PASSING = 10, (2, 4, 8, 10, 14)
 NOT_FOUND, RUNNING = 5, 1
+# The stage of an update that is taken, and has no result yet.
+ACCEPTED = 2
 # How many events of a history a client fetches at once.
 PAGE_EVENTS = 100
 TASK, ACTIVITY = "PollWorkflowTaskQueue", "PollActivityTaskQueue"
 ANSWER, PAGE, RESULT = "RespondWorkflowTaskCompleted", "GetWorkflowExecutionHistory", "RespondActivityTaskCompleted"
+HEARTBEAT = "RecordActivityTaskHeartbeat"
 # The worker: it hands on what it reads to a socket, and what comes from there to its output. A line `@read` lets one that
 # is `deaf` begin to read, `@end N` ends it.
 WORKER = """
@@ -254,6 +257,11 @@ class Client:
         except Wrong as why:
             return str(why)
         return " ".join(one.data.decode() for one in found.query_result.payloads) if found else "no such run"
+
+    def update(self, execution, name):
+        """Sends an update, and waits until it is taken or turned down."""
+        request = {"meta": {"update_id": str(uuid.uuid4()), "identity": self.identity}, "input": {"name": name}}
+        self.call("UpdateWorkflowExecution", workflow_execution=execution, wait_policy={"lifecycle_stage": ACCEPTED}, request=request)
 
     def terminate(self, execution):
         self.call("TerminateWorkflowExecution", workflow_execution=execution, reason="the trial is over", identity=self.identity)

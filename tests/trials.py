@@ -83,6 +83,15 @@ class Worker:
         """Waits for its end: what it has said."""
         return ended(self.child, self.said, status, within)
 
+    def stop_after_losses(self, within=20.0):
+        """Tells it to end: the lines of the answers and tasks that it has lost. Its status is 1 if there are some, and else 0."""
+        self.child.terminate()
+        self.child.wait(within)
+        status = self.child.returncode
+        lost = [line for line in lines_of(self.end(status)) if re.search("; (the answer is lost|its task is given up), ", line)]
+        same(f"status after {lost}", status, int(lost != []))
+        return lost
+
 
 class Room:
     """A server, the way to it, and the workers that serve it."""
@@ -398,8 +407,8 @@ def five_megabytes():
 # The way to the server.
 
 
-def server_away(times=1, seconds=1.5):
-    """The server goes away and comes back, again and again: all runs end, whatever went down with a connection."""
+def server_away(times=1, seconds=1.5, within=7.0):
+    """The server goes away and comes back: all runs end, whatever went down with a connection. Returns what is said to be lost."""
     with Room(speed=5) as room:
         room.workflows.milliseconds = 1_500
         worker = Worker(room, "--workers", "4")
@@ -414,21 +423,30 @@ def server_away(times=1, seconds=1.5):
                     peer.lose_connection()
             time.sleep(seconds)
         # The bridge connects again some seconds after the server is back, and the host polls after that.
-        room.wait(within=7)
-        worker.stop()
+        room.wait(within=within)
+        lost = worker.stop_after_losses()
+        runs = tuple(told_of(run, "") for run in room.server.runs.all)
+        same("losses without a run", [line for line in lost if not line.startswith(runs)], [])
+        return lost
+
+
+def server_away_once():
+    """The server goes away and comes back: nothing is lost."""
+    same("lost", server_away(), [])
 
 
 def server_away_again_and_again():
-    server_away(5)
+    """The server goes away for five times: an answer may find it away for ten seconds, and is lost then."""
+    server_away(5, within=20.0)
 
 
-def server_away_for_long():
-    """The server is away for fifteen seconds as the result of an activity is sent: it is sent until it is taken, and no activity
-    times out."""
+def server_away_for_long(seconds=12):
+    """The server is away for longer than other calls are tried as the result of an activity is sent: it is sent until it is taken,
+    and no activity times out."""
     with Room(Orders, program=ORDERS, serves=True) as room:
 
         def leave(call):
-            room.way.leave(15)
+            room.way.leave(seconds)
             return None, (UNAVAILABLE, "away")
 
         room.plan.add(RESULT, leave, times=1)
@@ -522,6 +540,29 @@ def events_of_unknown_types():
         lines = lines_of(worker.stop())
         has("lines", lines, f"temporal_bridge: {what}: pip install --upgrade temporalio")
         has("lines", lines, told_of(bad, text))
+
+
+def unknown_event_in_a_sticky_task():
+    """So it is in a task that brings new events alone: the number of the event is the one in the history."""
+    with Room() as room:
+        room.plan.add(f"{TASK} {PAGE}", changed(copied))
+        room.workflows.milliseconds = 60_000
+        worker, run = Worker(room, "--workers", "4"), room.start("Nap")
+        soon("the run is cached", lambda: run.timers and room.server.peers[0].polls == 4)
+        with room.calls.lock:
+            number, same_time = run.next_number, {"eventTime": run.events[-1]["eventTime"]}
+            run.events.append({"eventId": str(number), "eventType": "EVENT_TYPE_55", **same_time})
+        room.signal(run)
+        soon("the task is failed", lambda: room.server.findings.counts["failed tasks"] == 1)
+        same("histories", room.count(PAGE), 0)
+        text = f"event {number} has the unsupported type EVENT_TYPE_55"
+        same("failures", room.world.failures, [f"a task of Nap {run.workflow_id} was failed: {text}"])
+        room.world.failures.clear()
+        room.end(run)
+        room.unreplayed.add(run)
+        lines = lines_of(worker.stop())
+        has("lines", lines, told_of(run, text))
+        same("a line of the bridge", any(f"event {number} of {told_of(run, '')[:-2]} has the type 55" in line for line in lines), True)
 
 
 def histories_in_pages():
@@ -781,6 +822,8 @@ def bridge_killed():
 
 
 TRIES = [
+    server_away_for_long,
+    shutdown_with_pages_that_hang,
     polls_refused_once,
     polls_refused_for_good,
     polls_refused_for_seconds,
@@ -792,9 +835,10 @@ TRIES = [
     answers_taken_and_lost,
     result_taken_and_lost,
     answer_too_large,
-    server_away,
+    server_away_once,
     connections_that_end,
     events_of_unknown_types,
+    unknown_event_in_a_sticky_task,
     histories_in_pages,
     pages_refused_for_now,
     pages_refused,
@@ -814,11 +858,9 @@ LONG = [
     answers_that_hang,
     five_megabytes,
     server_away_again_and_again,
-    server_away_for_long,
     connections_that_end_for_long,
     server_that_forgets,
     shutdowns_with_answers_that_fail,
-    shutdown_with_pages_that_hang,
     shutdown_with_a_farewell_that_hangs,
 ]
 LEFT_OUT = {}

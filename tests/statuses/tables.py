@@ -1,5 +1,7 @@
 """Checks and trials of workflows that are tables in files."""
 
+import json
+
 from .rooms import NAP, NOT_JSON
 from .runs import Like
 from .texts import MISSING, cannot_read
@@ -42,6 +44,24 @@ ONE_PAGE = "error: --html takes one file, and can't be given with --json\n"
 STARTED = "start => StartActivity b C\n"
 
 
+def counting(*bounds):
+    """A table whose runs have a configuration for all values of four counters up to these bounds, and one that is closed."""
+    named = dict(zip("pqrs", bounds))
+    ups = [["a", f"signal {name}", f"{name} < {bound}", [], "a", f"up {name}"] for name, bound in named.items()]
+    full = ["a", "fired t", [f"{name} >= {bound}" for name, bound in named.items()], "complete"]
+    counters = [f"{name} {bound}" for name, bound in named.items()]
+    rows = [["a", "start", "", "timer t 5"], *ups, full]
+    return json.dumps({"version": 1, "counters": counters, "rows": rows, "promises": ["at most 1 complete"]}).encode()
+
+
+# What a promise of such a table comes to: of 196,505 configurations, and of 200,001.
+KEPT = "-: ok, 6 rows\npromise 1, at most 1 complete: kept\n1 files, 1 ok\n"
+TOO_MANY = """-: fault, 6 rows
+promise 1, at most 1 complete: not decided: more than 200000 configurations
+1 files, 0 ok
+"""
+
+
 def tables(room):
     """What is found of tables, and what their jobs are given."""
     files = {"charge.json": CHARGE, "loose.json": LOOSE, "bad.json": BAD, "rules.json": RULES}
@@ -52,6 +72,8 @@ def tables(room):
         (["check", charge], 0, CHECKED, ""),
         (["check", "-"], 0, CHECKED.replace("charge.json", "-"), "", {"given": CHARGE}),
         (["check", f"{folder}/loose.json"], 0, WARNED, ""),
+        (["check", "-"], 0, KEPT, "", {"given": counting(10, 21, 27, 28)}),
+        (["check", "-"], 1, TOO_MANY, "", {"given": counting(24, 24, 19, 15)}),
         (["check", bad], 1, f"{BAD_ROWS}1 files, 0 ok\n", ""),
         (["check", f"{folder}/rules.json"], 1, BROKEN_RULES, ""),
         (["check", f"{folder}/nap.json"], 1, "nap.json: the version of the table is not 1\n1 files, 0 ok\n", ""),

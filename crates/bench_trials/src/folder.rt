@@ -1,7 +1,7 @@
 //! The files of a folder.
 
 use std::rt::Files;
-use wh_files::{Input, folder_inputs, read_input};
+use wh_console::{Input, folder_inputs, read_input};
 
 /// The files of a folder whose names end in `.json`, by name and bytes, in the order of the bytes
 /// of their names. `None` if one of them can't be read, for example if a name is not UTF-8.

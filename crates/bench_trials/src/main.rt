@@ -7,6 +7,7 @@
 //! bench/soak.py.
 #![tactic(auto)]
 
+mod alike;
 mod blink;
 mod calls;
 mod comparing;
@@ -21,6 +22,7 @@ mod notation;
 mod peak;
 mod places;
 mod replay;
+mod same;
 mod samples;
 mod soak;
 mod things;

@@ -5,7 +5,7 @@ use crate::long_run::LongRun;
 use std::io::{Eprint, Print};
 use std::rt::Files;
 use std::str;
-use wh_files::read_file;
+use wh_console::read_file;
 use wh_workflow::Meter;
 
 /// The run, whose workflow allocates a block of memory at each signal.

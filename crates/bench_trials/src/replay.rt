@@ -104,7 +104,7 @@ fn match_record(
     requires rising { from < to }
     requires within { to ≤ length track.now + 1 }
 {
-    let sent = script.reduced()?;
+    let sent = script.reduce()?;
     let matched = matches(sent.as_slice(), track, from, to);
     drop(sent);
     match matched {

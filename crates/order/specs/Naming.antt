@@ -1,7 +1,7 @@
 -- The workflow id of an order's child.
 use Rattle.std.specs.Prelude.{ℕ, List, ◌++◌, Option, Some, None, codes}
 use Rattle.wh_events.specs.declared.event.Payload.{Payload}
-use Rattle.wh_payloads.specs.PlainTexts.{payload_text}
+use Rattle.wh_workflow.specs.PlainTexts.{payload_text}
 
 -- the id of the child of an order with this name
 abbrev pub id_of_name : Option (List ℕ) → List ℕ

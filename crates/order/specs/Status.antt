@@ -1,10 +1,10 @@
 -- How an order answers queries.
 use Rattle.std.specs.Prelude.{ℕ, List, ◌∷◌, [], codes, bytes_eq, if◌then◌else◌}
 use Rattle.serde_json.specs.Data.{string}
-use Rattle.wh_json_payloads.specs.Values.{payload_written}
-use Rattle.wh_queryable.specs.Definitions.{Definitions}
-use Rattle.wh_queryable.specs.Queries.{Queries, unknown_query}
-use Rattle.wh_queryable.specs.declared.queryable.QueryResult.TheVariants.{Answered}
+use Rattle.wh_author_tools.specs.Values.{payload_written}
+use Rattle.wh_workflow.specs.Definitions.{Definitions}
+use Rattle.wh_workflow.specs.Queries.{Queries, unknown_query}
+use Rattle.wh_workflow.specs.declared.queryable.QueryResult.TheVariants.{Answered}
 use Rattle.order.specs.declared.OrderState.{OrderState}
 use Rattle.order.specs.declared.OrderState.TheVariants.{Charging, Held, Shipping, Closed}
 

@@ -4,8 +4,7 @@ ghost use Rattle.order.specs.Naming.{parcel_id};
 
 use std::alloc::Global;
 use wh_events::{Items, OutOfMemory, Payload, Text};
-use wh_payloads::payload_text;
-use wh_workflow::text_of;
+use wh_workflow::{payload_text, text_of};
 
 /// Returns the workflow id of the child of an order: `parcel-NAME` if the second payload of its
 /// input is the JSON string of NAME without escapes, and otherwise `parcel`, of which only one can

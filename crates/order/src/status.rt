@@ -4,9 +4,9 @@ ghost use Rattle.order.specs.Status.{status};
 
 use crate::{Order, OrderState};
 use std::alloc::Global;
+use wh_author_tools::{one_payload, text_payload};
 use wh_events::{OutOfMemory, Payload};
-use wh_json_payloads::{one_payload, text_payload};
-use wh_queryable::{QueryResult, Queryable, WorkflowDefinition, unknown_query};
+use wh_workflow::{QueryResult, Queryable, WorkflowDefinition, unknown_query};
 
 /// Returns the name of the order's state.
 fn status(state: &OrderState) -> &'static str

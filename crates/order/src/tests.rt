@@ -5,8 +5,10 @@ use crate::{Order, OrderState, receipt};
 use std::alloc::Global;
 use std::process::Abort;
 use wh_events::{Items, Payload, Text};
-use wh_queryable::{QueryResult, query_state};
-use wh_workflow::{ActivityEnd, ChildEnd, Command, Job, Meter, Workflow, no_payloads, text_of};
+use wh_workflow::{
+    ActivityEnd, ChildEnd, Command, Job, Meter, QueryResult, Workflow, no_payloads, query_state,
+    text_of,
+};
 
 fn text(rt: &impl Abort, alloc: Global, content: &str) -> Text {
     text_of(alloc, content).expect(rt, "memory")
@@ -25,7 +27,7 @@ fn payload(rt: &impl Abort, alloc: Global, content: &[u8]) -> Payload {
 }
 
 /// An input of a price and one more payload.
-fn priced(rt: &impl Abort, alloc: Global, content: &[u8]) -> Items<Payload> {
+fn price_input(rt: &impl Abort, alloc: Global, content: &[u8]) -> Items<Payload> {
     let price = payload(rt, alloc, b"1999");
     let second = payload(rt, alloc, content);
     Items::new(vec![in alloc; price, second].expect(rt, "memory"))
@@ -48,7 +50,7 @@ fn charge_completed(rt: &impl Abort, alloc: Global) -> Job {
 }
 
 /// The job of the timer that fired after the day.
-fn fired(rt: &impl Abort, alloc: Global) -> Job {
+fn timer_fired(rt: &impl Abort, alloc: Global) -> Job {
     Job::TimerFired {
         id: text(rt, alloc, "hold"),
     }
@@ -63,7 +65,7 @@ fn cancel(rt: &impl Abort, alloc: Global) -> Job {
 }
 
 /// The job of the version with tracked parcels.
-fn tracked(rt: &impl Abort, alloc: Global) -> Job {
+fn version_job(rt: &impl Abort, alloc: Global) -> Job {
     Job::Version {
         change_id: text(rt, alloc, "tracked"),
         version: 1,
@@ -71,7 +73,7 @@ fn tracked(rt: &impl Abort, alloc: Global) -> Job {
 }
 
 /// The job of the child with this id that completed.
-fn arrived(rt: &impl Abort, alloc: Global, parcel: &str) -> Job {
+fn child_completed(rt: &impl Abort, alloc: Global, parcel: &str) -> Job {
     Job::Child {
         workflow_id: text(rt, alloc, parcel),
         end: ChildEnd::Completed(no_payloads(alloc)),
@@ -110,7 +112,7 @@ fn holds(rt: &impl Abort, alloc: Global, input: Items<Payload>) -> OrderState {
 /// After the day it asks whether parcels are tracked.
 fn asks(rt: &impl Abort, alloc: Global, input: Items<Payload>) -> OrderState {
     let mut state = holds(rt, alloc, input);
-    let given = step(rt, alloc, &mut state, fired(rt, alloc));
+    let given = step(rt, alloc, &mut state, timer_fired(rt, alloc));
     assert!(rt;
         matches!(
             given.as_slice(),
@@ -127,7 +129,7 @@ fn asks(rt: &impl Abort, alloc: Global, input: Items<Payload>) -> OrderState {
 /// Then it is shipped by a child of the id.
 fn ships(rt: &impl Abort, alloc: Global, input: Items<Payload>, parcel: &str) -> OrderState {
     let mut state = asks(rt, alloc, input);
-    let given = step(rt, alloc, &mut state, tracked(rt, alloc));
+    let given = step(rt, alloc, &mut state, version_job(rt, alloc));
     assert!(rt;
         matches!(given.as_slice(), [Command::StartChild { workflow_id, workflow, .. }]
             if workflow_id.get() == parcel && workflow.get() == "ShipTracked")
@@ -139,7 +141,12 @@ fn ships(rt: &impl Abort, alloc: Global, input: Items<Payload>, parcel: &str) ->
 fn an_order_is_shipped_after_a_day(rt: HostRuntime) {
     let alloc = rt.alloc();
     let mut state = ships(&rt, alloc, no_payloads(alloc), "parcel");
-    let given = step(&rt, alloc, &mut state, arrived(&rt, alloc, "parcel"));
+    let given = step(
+        &rt,
+        alloc,
+        &mut state,
+        child_completed(&rt, alloc, "parcel"),
+    );
     assert!(&rt; matches!(given.as_slice(), [Command::Complete { .. }]));
     assert!(&rt; matches!(state, OrderState::Closed));
 }
@@ -147,22 +154,27 @@ fn an_order_is_shipped_after_a_day(rt: HostRuntime) {
 #[test]
 fn an_order_with_a_name_waits_for_its_own_parcel(rt: HostRuntime) {
     let alloc = rt.alloc();
-    let input = priced(&rt, alloc, b"\"order-1\"");
+    let input = price_input(&rt, alloc, b"\"order-1\"");
     let mut state = ships(&rt, alloc, input, "parcel-order-1");
-    let given = step(&rt, alloc, &mut state, arrived(&rt, alloc, "parcel"));
+    let given = step(
+        &rt,
+        alloc,
+        &mut state,
+        child_completed(&rt, alloc, "parcel"),
+    );
     assert!(&rt; given.is_empty());
     let given = step(
         &rt,
         alloc,
         &mut state,
-        arrived(&rt, alloc, "parcel-order-1"),
+        child_completed(&rt, alloc, "parcel-order-1"),
     );
     assert!(&rt; matches!(given.as_slice(), [Command::Complete { .. }]));
 }
 
 /// The child of an order whose second payload has this content has the expected id.
 fn is_named(rt: &impl Abort, alloc: Global, content: &[u8], wanted: &str) {
-    let input = priced(rt, alloc, content);
+    let input = price_input(rt, alloc, content);
     let id = parcel_id(alloc, &input).expect(rt, "memory");
     assert_eq!(rt; id.get(), wanted);
 }
@@ -202,7 +214,7 @@ fn calls_off(rt: &impl Abort, alloc: Global) -> OrderState {
 #[test]
 fn an_order_is_called_off(rt: HostRuntime) {
     let mut state = calls_off(&rt, rt.alloc());
-    let given = step(&rt, rt.alloc(), &mut state, fired(&rt, rt.alloc()));
+    let given = step(&rt, rt.alloc(), &mut state, timer_fired(&rt, rt.alloc()));
     assert!(&rt; given.is_empty());
 }
 
@@ -223,7 +235,7 @@ fn a_charged_card_gives_back_what_it_was_charged_with(rt: HostRuntime) {
 }
 
 /// The answer of an order to a query, as a text: that of the only payload, or why there is none.
-fn queried(rt: &impl Abort, alloc: Global, state: &OrderState, query_type: &str) -> String {
+fn query_text(rt: &impl Abort, alloc: Global, state: &OrderState, query_type: &str) -> String {
     let given = query_state::<Order>(alloc, state, query_type, &[]).expect(rt, "memory");
     let text = match &given {
         QueryResult::Answered(payloads) => match payloads.get() {
@@ -240,21 +252,24 @@ fn an_order_says_how_far_it_has_come(rt: HostRuntime) {
     let alloc = rt.alloc();
     let charging = charges(&rt, alloc, no_payloads(alloc));
     assert_eq!(rt;
-        queried(&rt, alloc, &charging, "status").as_str(),
+        query_text(&rt, alloc, &charging, "status").as_str(),
         "\"charging\""
     );
     let held = holds(&rt, alloc, no_payloads(alloc));
-    assert_eq!(rt; queried(&rt, alloc, &held, "status").as_str(), "\"held\"");
+    assert_eq!(rt;
+        query_text(&rt, alloc, &held, "status").as_str(),
+        "\"held\""
+    );
     let shipping = ships(&rt, alloc, no_payloads(alloc), "parcel");
     assert_eq!(rt;
-        queried(&rt, alloc, &shipping, "status").as_str(),
+        query_text(&rt, alloc, &shipping, "status").as_str(),
         "\"shipping\""
     );
     let closed = calls_off(&rt, alloc);
     assert_eq!(rt;
-        queried(&rt, alloc, &closed, "status").as_str(),
+        query_text(&rt, alloc, &closed, "status").as_str(),
         "\"closed\""
     );
-    let unknown = queried(&rt, alloc, &closed, "price");
+    let unknown = query_text(&rt, alloc, &closed, "price");
     assert_eq!(rt; unknown.as_str(), "unknown query type price; known: status");
 }

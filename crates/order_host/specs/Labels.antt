@@ -4,12 +4,12 @@ use Rattle.order_host.specs.declared.labels.LabelStep.{LabelStep}
 use Rattle.order_host.specs.declared.labels.LabelStep.TheVariants.{Heard, Printed}
 use Rattle.order_host.specs.declared.labels.LabelsEnd.{LabelsEnd}
 use Rattle.order_host.specs.declared.labels.LabelsEnd.TheVariants.{CalledOff, Done}
-use Rattle.wh_activities.specs.WithHeartbeat.{Brings, Tells}
+use Rattle.wh_tasks.specs.WithHeartbeat.{Brings, Tells}
 use Rattle.wh_events.specs.declared.event.Payload.{Payload}
-use Rattle.wh_heartbeat.specs.declared.activity_info.ActivityInfo.{ActivityInfo}
-use Rattle.wh_heartbeat.specs.declared.heartbeat.HeartbeatResponse.{HeartbeatResponse}
-use Rattle.wh_heartbeat.specs.declared.heartbeat.HeartbeatResponse.TheVariants.{CancelRequested, Gone, GoOn, Unheard}
-use Rattle.wh_json_payloads.specs.Values.{json_value, number_in}
+use Rattle.wh_tasks.specs.declared.activity_info.ActivityInfo.{ActivityInfo}
+use Rattle.wh_tasks.specs.declared.heartbeat.HeartbeatResponse.{HeartbeatResponse}
+use Rattle.wh_tasks.specs.declared.heartbeat.HeartbeatResponse.TheVariants.{CancelRequested, Gone, GoOn, Unheard}
+use Rattle.wh_author_tools.specs.Values.{json_value, number_in}
 use Rattle.wh_tasks.specs.declared.failure.ActivityFailure.{ActivityFailure}
 use Rattle.wh_tasks.specs.declared.source.ActivityAnswer.{ActivityAnswer}
 use Rattle.wh_tasks.specs.declared.source.ActivityAnswer.TheVariants.{Completed, Failed}

@@ -1,6 +1,6 @@
 -- The answers of a till.
 use Rattle.std.specs.Prelude.{◌≡◌, Bool, true, false, List, Option, Some, None, bytes_eq, codes, length}
-use Rattle.wh_activities.specs.WithHeartbeat.{Brings, Tells}
+use Rattle.wh_tasks.specs.WithHeartbeat.{Brings, Tells}
 use Rattle.wh_events.specs.declared.event.Payload.{Payload}
 use Rattle.wh_tasks.specs.Failures.{not_found}
 use Rattle.wh_tasks.specs.declared.source.ActivityTask.{ActivityTask}

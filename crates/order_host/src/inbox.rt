@@ -163,11 +163,8 @@ impl TaskSource for Inbox {
         }
     }
 
-    fn answer_workflow(&mut self, name: TaskName, answer: &Answer) -> Result<(), SourceFault> {
-        let Ok(copy) = answer.try_copy(self.alloc) else {
-            return Err(SourceFault::OutOfMemory);
-        };
-        match self.answers.push((name, Sent::Workflow(copy))) {
+    fn answer_workflow(&mut self, name: TaskName, answer: Answer) -> Result<(), SourceFault> {
+        match self.answers.push((name, Sent::Workflow(answer))) {
             Ok(()) => Ok(()),
             Err(_) => Err(SourceFault::OutOfMemory),
         }
@@ -176,7 +173,7 @@ impl TaskSource for Inbox {
     fn answer_replayed(
         &mut self,
         name: TaskName,
-        answer: &Answer,
+        answer: Answer,
         _events: &[Event],
         _steps: u64,
     ) -> Acceptance {
@@ -193,12 +190,9 @@ impl TaskSource for Inbox {
     fn answer_activity(
         &mut self,
         name: TaskName,
-        answer: &ActivityAnswer,
+        answer: ActivityAnswer,
     ) -> Result<(), SourceFault> {
-        let Ok(copy) = answer.try_copy() else {
-            return Err(SourceFault::OutOfMemory);
-        };
-        match self.answers.push((name, Sent::Activity(copy))) {
+        match self.answers.push((name, Sent::Activity(answer))) {
             Ok(()) => Ok(()),
             Err(_) => Err(SourceFault::OutOfMemory),
         }

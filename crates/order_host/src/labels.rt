@@ -6,10 +6,9 @@ ghost use Rattle.order_host.specs.declared.labels.LabelStep.TheVariants.{Heard, 
 
 use crate::orders::json;
 use std::alloc::Global;
-use wh_events::{Items, OutOfMemory, Payload};
-use wh_ghost_list::GhostList;
-use wh_heartbeat::{Heartbeat, HeartbeatResponse};
-use wh_json_payloads::json_number;
+use wh_author_tools::json_number;
+use wh_events::{GhostList, Items, OutOfMemory, Payload};
+use wh_tasks::{Heartbeat, HeartbeatResponse};
 
 /// One step of a task that prints labels.
 #[derive(Clone, Copy, PartialEq, Eq, Debug)]
@@ -56,7 +55,7 @@ pub(crate) fn count_payload(alloc: Global, printed: usize) -> Result<Payload, Ou
 }
 
 /// Returns a number that was told, if it is one of these labels, otherwise 0.
-fn counted(told: Option<i64>, labels: usize) -> usize
+fn number_told(told: Option<i64>, labels: usize) -> usize
     ensures is { result ≡ counted told labels }
     ensures within { result ≤ labels }
 {
@@ -80,7 +79,7 @@ fn printed_before(
     ensures within { IfOk result (λ printed. printed ≤ labels) }
 {
     match details {
-        Some(details) => Ok(counted(json_number(alloc, details.get(), 0)?, labels)),
+        Some(details) => Ok(number_told(json_number(alloc, details.get(), 0)?, labels)),
         None => Ok(0),
     }
 }

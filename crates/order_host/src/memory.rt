@@ -10,11 +10,10 @@ use std::io::Print;
 use std::process::ExitCode;
 use std::sync::Wait;
 use std::thread::Threads;
-use wh_activities::WithHeartbeat;
 use wh_events::OutOfMemory;
-use wh_heartbeat::NoHeartbeat;
 use wh_host::{Config, OpenFault};
-use wh_poll::{HostEnd, NoObserver, OpenGate, WorkerSetup, run_host};
+use wh_poll::{HostEnd, NoObserver, WorkerSetup, run_host};
+use wh_tasks::{NoHeartbeat, WithHeartbeat};
 
 /// How many workers there are, each with a thread.
 const WORKERS: usize = 2;
@@ -67,8 +66,8 @@ fn serve<R: Threads + Wait + Sync>(rt: &R, alloc: Global) -> Result<OrderEnd, Op
         seats: WORKERS,
     };
     let setups = setups(alloc)?;
-    run_host::<Order, R, Inbox, WithHeartbeat<Till, NoHeartbeat>, NoObserver, OpenGate>(
-        rt, alloc, config, setups, &OpenGate,
+    run_host::<Order, R, Inbox, WithHeartbeat<Till, NoHeartbeat>, NoObserver>(
+        rt, alloc, config, setups,
     )
 }
 

@@ -58,7 +58,7 @@ fn add(events: &mut Vec<Event>, number: u64, body: EventKind) -> Result<(), OutO
 }
 
 /// Returns the events with which the order comes in.
-fn begun(alloc: Global, order: u64) -> Result<Vec<Event>, OutOfMemory> {
+fn opening_events(alloc: Global, order: u64) -> Result<Vec<Event>, OutOfMemory> {
     let mut events = Vec::new(alloc);
     let start = EventKind::WorkflowExecutionStarted {
         workflow: text_of(alloc, "Order")?,
@@ -71,7 +71,7 @@ fn begun(alloc: Global, order: u64) -> Result<Vec<Event>, OutOfMemory> {
 }
 
 /// Returns the events with which the card is charged; the receipt is the input of the charge.
-fn charged(alloc: Global, order: u64) -> Result<Vec<Event>, OutOfMemory> {
+fn charge_events(alloc: Global, order: u64) -> Result<Vec<Event>, OutOfMemory> {
     let mut events = Vec::new(alloc);
     add(&mut events, 4, EventKind::WorkflowTaskCompleted)?;
     add(
@@ -101,7 +101,7 @@ fn charged(alloc: Global, order: u64) -> Result<Vec<Event>, OutOfMemory> {
 }
 
 /// Returns the events with which the order is held, until the hold ends.
-fn held(alloc: Global, order: u64) -> Result<Vec<Event>, OutOfMemory> {
+fn hold_events(alloc: Global, order: u64) -> Result<Vec<Event>, OutOfMemory> {
     let mut events = Vec::new(alloc);
     add(&mut events, 10, EventKind::WorkflowTaskCompleted)?;
     add(
@@ -157,9 +157,9 @@ fn charge_task(alloc: Global, order: u64) -> Result<ActivityTask, OutOfMemory> {
 /// Adds the tasks of an order: three workflow tasks, and one to charge for it. Every third order
 /// is called off, and the others are shipped.
 pub(crate) fn add_order(inbox: &mut Inbox, alloc: Global, order: u64) -> Result<(), OutOfMemory> {
-    inbox.add_workflow(workflow_task(alloc, order, 1, begun(alloc, order)?)?)?;
+    inbox.add_workflow(workflow_task(alloc, order, 1, opening_events(alloc, order)?)?)?;
     inbox.add_activity(charge_task(alloc, order)?)?;
-    inbox.add_workflow(workflow_task(alloc, order, 4, charged(alloc, order)?)?)?;
-    inbox.add_workflow(workflow_task(alloc, order, 10, held(alloc, order)?)?)?;
+    inbox.add_workflow(workflow_task(alloc, order, 4, charge_events(alloc, order)?)?)?;
+    inbox.add_workflow(workflow_task(alloc, order, 10, hold_events(alloc, order)?)?)?;
     Ok(())
 }

@@ -7,10 +7,9 @@ ghost use Rattle.order_host.specs.Till.{till_answer};
 use crate::labels::{LabelsEnd, count_payload, first_label, print_labels};
 use order::receipt;
 use std::alloc::Global;
-use wh_activities::HeartbeatHandler;
 use wh_events::{Items, OutOfMemory, Payload};
-use wh_heartbeat::Heartbeat;
 use wh_poll::{ActivityAnswer, ActivityFailure, ActivityTask};
+use wh_tasks::{Heartbeat, HeartbeatHandler};
 use wh_workflow::text_of;
 
 /// Charges cards, with their receipts as results, and prints labels of parcels, with their number

@@ -2,7 +2,7 @@
 
 use crate::Reminder;
 use std::test::Fail;
-use wh_scenarios::follows;
+use wh_author_tools::follows;
 
 #[test]
 fn reminds_after_an_hour(rt: HostRuntime) -> Result<(), Fail> {

@@ -5,20 +5,19 @@ ghost use Rattle.wh_rows.specs.declared.row.JobPattern.TheVariants.{Fired};
 ghost use Rattle.wh_rows.specs.Tables.{seen};
 ghost use Rattle.wh_rows.specs.Properties.{StartsActivity};
 ghost use Rattle.wh_rows.specs.Followed.{EachFollowed, unsuccessful};
-ghost use Rattle.wh_promises.specs.Courses.{Comes, Gives};
-ghost use Rattle.wh_promises.specs.Promises.{keeps_watch};
+ghost use Rattle.wh_rows.specs.Courses.{Comes, Gives};
+ghost use Rattle.wh_rows.specs.Promises.{keeps_watch};
 ghost use Rattle.row_samples.specs.declared.booking.TheConstants.{BOOKING};
 
-use wh_promises::Promising;
-use wh_rows::rows;
 use wh_rows::words::*;
+use wh_rows::{Promising, rows};
 
 /// Whether a charge must be refunded unless the run completes.
 const OWED: Counter = Counter::A;
 
 /// The rows of `Booking`.
 #[rattlefmt::skip]
-pub static BOOKING: Definition = DefinitionOf { kind: "Booking", first: "charging", name: Nameless, bounds: Counts { a: 1, b: 0, c: 0, d: 0 }, rows: rows! {
+pub static BOOKING: Definition = DefinitionOf { kind: "Booking", first: "charging", name: Nameless, bounds: Counters { a: 1, b: 0, c: 0, d: 0 }, rows: rows! {
     charging:  Start, if [Below(OWED, 1)]          => [StartActivity("charge", "ChargeCard", Input)], do [Up(OWED)];
     charging:  Done("charge")                      => [StartActivity("room", "BookRoom", Input)] => booking;
     charging:  NotDone("charge")                   => [StartActivity("refund", "RefundCard", Input)], do [Zero(OWED)] => refunding;

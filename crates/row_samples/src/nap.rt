@@ -2,15 +2,14 @@
 ghost use Rattle.std.specs.Prelude.{codes, refl, [], ◌∷◌};
 ghost use Rattle.wh_rows.specs.declared.row.JobPattern.TheVariants.{Fired};
 ghost use Rattle.wh_rows.specs.Tables.{seen};
-ghost use Rattle.wh_promises.specs.Courses.{Comes, Completes, Fails};
-ghost use Rattle.wh_promises.specs.Promises.{at_most, only_after};
+ghost use Rattle.wh_rows.specs.Courses.{Comes, Completes, Fails};
+ghost use Rattle.wh_rows.specs.Promises.{at_most, only_after};
 ghost use Rattle.wh_sample_workflows.specs.Nap.{nap};
 ghost use Rattle.row_samples.specs.Alike.{GivesAsCode};
 ghost use Rattle.row_samples.specs.declared.nap.TheConstants.{NAP};
 
-use wh_promises::Promising;
-use wh_rows::rows;
 use wh_rows::words::*;
+use wh_rows::{Promising, rows};
 
 /// The rows of `Nap`.
 #[rattlefmt::skip]

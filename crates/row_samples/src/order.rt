@@ -3,13 +3,12 @@ ghost use Rattle.std.specs.Prelude.{refl, codes, [], ◌∷◌};
 ghost use Rattle.wh_rows.specs.declared.row.JobPattern.TheVariants.{Fired, ChildDone};
 ghost use Rattle.wh_rows.specs.Tables.{seen};
 ghost use Rattle.wh_rows.specs.Properties.{StartsActivity, StartsChild};
-ghost use Rattle.wh_promises.specs.Courses.{Comes, Gives, Completes};
-ghost use Rattle.wh_promises.specs.Promises.{at_most, only_after, between};
+ghost use Rattle.wh_rows.specs.Courses.{Comes, Gives, Completes};
+ghost use Rattle.wh_rows.specs.Promises.{at_most, only_after, between};
 ghost use Rattle.row_samples.specs.declared.order.TheConstants.{ORDER};
 
-use wh_promises::Promising;
-use wh_rows::rows;
 use wh_rows::words::*;
+use wh_rows::{Promising, rows};
 
 /// The rows of `Order`.
 #[rattlefmt::skip]

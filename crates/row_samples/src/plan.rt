@@ -4,20 +4,19 @@ ghost use Rattle.std.specs.Prelude.{refl, codes, [], ◌∷◌};
 ghost use Rattle.wh_rows.specs.declared.row.JobPattern.TheVariants.{Signal};
 ghost use Rattle.wh_rows.specs.Tables.{seen};
 ghost use Rattle.wh_rows.specs.Properties.{AtMost, StartsActivity};
-ghost use Rattle.wh_promises.specs.Courses.{Comes, Gives};
-ghost use Rattle.wh_promises.specs.Promises.{at_most, never_after};
+ghost use Rattle.wh_rows.specs.Courses.{Comes, Gives};
+ghost use Rattle.wh_rows.specs.Promises.{at_most, never_after};
 ghost use Rattle.row_samples.specs.declared.plan.TheConstants.{PLAN};
 
-use wh_promises::Promising;
-use wh_rows::rows;
 use wh_rows::words::*;
+use wh_rows::{Promising, rows};
 
 /// How often the card was charged.
 const CHARGES: Counter = Counter::A;
 
 /// The rows of `Plan`.
 #[rattlefmt::skip]
-pub static PLAN: Definition = DefinitionOf { kind: "Plan", first: "paying", name: Nameless, bounds: Counts { a: 12, b: 0, c: 0, d: 0 }, rows: rows! {
+pub static PLAN: Definition = DefinitionOf { kind: "Plan", first: "paying", name: Nameless, bounds: Counters { a: 12, b: 0, c: 0, d: 0 }, rows: rows! {
     paying:    Start, if [Below(CHARGES, 12)]          => [StartActivity("charge", "ChargeCard", Input)], do [Up(CHARGES)];
     paying:    Done("charge")                          => [StartTimer("month", 2_592_000)], do [Keep] => waiting;
     paying:    NotDone("charge")                       => [Fail("charge")];

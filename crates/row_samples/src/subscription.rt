@@ -3,14 +3,13 @@ ghost use Rattle.std.specs.Prelude.{refl, codes, [], ◌∷◌};
 ghost use Rattle.wh_rows.specs.declared.row.JobPattern.TheVariants.{Signal};
 ghost use Rattle.wh_rows.specs.Tables.{seen};
 ghost use Rattle.wh_rows.specs.Properties.{StartsActivity};
-ghost use Rattle.wh_promises.specs.Courses.{Comes, Gives, Fails};
-ghost use Rattle.wh_promises.specs.Promises.{at_most, only_after, never_after, HappensAtMost};
+ghost use Rattle.wh_rows.specs.Courses.{Comes, Gives, Fails};
+ghost use Rattle.wh_rows.specs.Promises.{at_most, only_after, never_after, HappensAtMost};
 ghost use Rattle.row_samples.specs.declared.subscription.TheConstants.{SUBSCRIPTION};
 
-use wh_promises::Promising;
-use wh_promises::laws::keeps_its_promises;
-use wh_rows::rows;
+use wh_rows::laws::keeps_its_promises;
 use wh_rows::words::*;
+use wh_rows::{Promising, rows};
 
 /// How many charges of this month failed.
 const TRIES: Counter = Counter::A;
@@ -19,7 +18,7 @@ const MONTHS: Counter = Counter::B;
 
 /// The rows of `Subscription`.
 #[rattlefmt::skip]
-pub static SUBSCRIPTION: Definition = DefinitionOf { kind: "Subscription", first: "charging", name: Nameless, bounds: Counts { a: 2, b: 12, c: 0, d: 0 }, rows: rows! {
+pub static SUBSCRIPTION: Definition = DefinitionOf { kind: "Subscription", first: "charging", name: Nameless, bounds: Counters { a: 2, b: 12, c: 0, d: 0 }, rows: rows! {
     charging:  Start                                   => [StartActivity("charge", "ChargeCard", Input)];
     charging:  Done("charge")                          => [StartTimer("month", 2_592_000)], do [Zero(TRIES), Up(MONTHS)] => waiting;
     charging:  NotDone("charge"), if [Below(TRIES, 2)] => [StartTimer("again", 86_400)], do [Up(TRIES)] => retrying;

@@ -10,11 +10,11 @@ use std::process::ExitCode;
 use std::sync::Wait;
 use std::thread;
 use std::time::{Clock, Duration};
-use wh_activities::HeartbeatHandler;
 use wh_cli::{calls_over, no_memory, read_input, run_with_heartbeats};
 use wh_events::{OutOfMemory, Payload};
-use wh_heartbeat::{Heartbeat, HeartbeatResponse};
-use wh_tasks::{ActivityAnswer, ActivityFailure, ActivityTask};
+use wh_tasks::{
+    ActivityAnswer, ActivityFailure, ActivityTask, Heartbeat, HeartbeatHandler, HeartbeatResponse,
+};
 use wh_workflow::{no_payloads, text_of};
 
 /// The registered workflow types.

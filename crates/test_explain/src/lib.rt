@@ -1,4 +1,5 @@
-//! Tests of explanations and of the values of commands by their public calls: what no contract says.
+//! Tests of explanations, of the values of commands and of views of any history, by their public
+//! calls: what no contract says.
 #![tactic(auto)]
 
 #[cfg(test)]

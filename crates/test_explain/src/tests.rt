@@ -3,3 +3,4 @@
 mod explaining;
 mod jobs;
 mod values;
+mod viewing;

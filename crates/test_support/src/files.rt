@@ -1,8 +1,8 @@
 //! Files of histories in short words, and reports of them.
 
+use crate::histories::{HistoryFault, json};
 use std::alloc::Global;
 use std::io::Write;
-use wh_histories::{HistoryFault, json};
 
 /// Returns the bytes of a file of this history; none if the history is empty. The fault is that of
 /// its words.

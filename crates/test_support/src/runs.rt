@@ -1,8 +1,8 @@
 //! Runs in words.
 
+use crate::histories::{HistoryFault, events_after};
 use crate::rows::shown;
 use std::alloc::{AllocError, Global};
-use wh_histories::{HistoryFault, events_after};
 use wh_replay::{AdvanceFault, Run, RunFault};
 use wh_workflow::{Meter, Workflow};
 

@@ -1,4 +1,5 @@
-//! Tests of workflows that get their table with each run: what is not a table, and scenarios.
+//! Tests of workflows as tables of rows, in a program or got with each run: what is not a table,
+//! scenarios, histories and promises.
 #![tactic(auto)]
 
 #[cfg(test)]

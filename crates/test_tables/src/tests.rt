@@ -2,8 +2,11 @@
 
 mod checks;
 mod faults;
+mod histories;
 mod limits;
 mod promises;
 mod promising;
 mod runs;
+mod scenarios;
+mod subscriptions;
 mod words;

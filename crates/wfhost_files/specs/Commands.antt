@@ -3,40 +3,47 @@ use Rattle.std.specs.Prelude.{◌≡◌, ℕ, List, codes}
 use Rattle.wh_command_line.specs.declared.command_line.Plan.{Plan}
 use Rattle.wh_command_line.specs.declared.command_line.Plan.TheVariants.{Explain, Page, View, Query, Help}
 use Rattle.wh_console.specs.Consoles.{ConsoleView, IsQuiet}
-use Rattle.wh_diagnostics.specs.Printing.{HasPrinted}
+use Rattle.wh_console.specs.Inputs.{IsReadFrom}
+use Rattle.wh_diagnostics.specs.Failures.{IsWriteFailure}
+use Rattle.wh_diagnostics.specs.Files.{HasCarriedOut, IsNotCarriedOut}
+use Rattle.wh_diagnostics.specs.Printing.{HasPrinted, IsRefused}
 use Rattle.wh_diagnostics.specs.declared.failures.Failure.{Failure}
 use Rattle.wh_diagnostics.specs.declared.failures.Failure.TheVariants.{Output}
-use Rattle.wh_file_commands.specs.Explanations.{HasExplainedPath}
-use Rattle.wh_file_commands.specs.Pages.{HasPagedPath}
-use Rattle.wh_file_commands.specs.Queries.{HasQueriedPath}
-use Rattle.wh_file_commands.specs.Refusals.{IsRefused, IsUnqueriedPath, IsUnreportedPath, IsUnshownPath}
-use Rattle.wh_file_commands.specs.Views.{HasViewedPath}
-use Rattle.wh_program.specs.Commands.{HasLacked}
+use Rattle.wh_file_commands.specs.Explanations.{HasExplained}
+use Rattle.wh_file_commands.specs.Pages.{HasPaged}
+use Rattle.wh_file_commands.specs.Queries.{HasQueried, IsUnqueried}
+use Rattle.wh_file_commands.specs.Refusals.{IsUnshown}
+use Rattle.wh_file_commands.specs.Views.{HasViewed}
+use Rattle.wh_diagnostics.specs.Commands.{HasLacked}
 use Rattle.wh_query_report.specs.Inputs.{query_of}
-use Rattle.wh_queryable.specs.Queries.{Queries}
+use Rattle.wh_workflow.specs.Queries.{Queries}
 use Rattle.wh_workflow.specs.Law.{Program}
 
 -- what a plan asks for was done, or that the program lacks its command was reported
 abbrev pub Obeys : {S : Type 0} → Program S → Queries S → (types : List ℕ) → Plan → (old new : ConsoleView)
     → (status : ℕ) → Type 0
 Obeys program queries types (Explain file selection format) old new status =
-    HasExplainedPath program file selection format old new status
+    HasCarriedOut IsReadFrom (HasExplained program selection format) file old new status
 Obeys program queries types (Page file only_recorded) old new status =
-    HasPagedPath program only_recorded file old new status
+    HasCarriedOut IsReadFrom (HasPaged program only_recorded) file old new status
 Obeys program queries types (View file selection format) old new status =
-    HasViewedPath file selection format old new status
+    HasCarriedOut IsReadFrom (HasViewed selection format) file old new status
 Obeys program queries types (Query file query_type input format) old new status =
-    HasQueriedPath program queries types file query_type input.items format old new status
-Obeys program queries types (Help text) old new status = HasPrinted text old new status
+    HasCarriedOut IsReadFrom (HasQueried program queries types (query_of query_type input.items) format) file
+    old new status
+Obeys program queries types (Help text) old new status = HasPrinted text 0 old new status
 Obeys program queries types _ old new status = HasLacked (codes "the commands explain and query") old new status
 
 -- what a plan asks for failed: an explanation and the help reported nothing, and all else also wrote nothing unless the
 -- output failed
 abbrev pub IsUndone : Plan → (old new : ConsoleView) → Failure → Type 0
-IsUndone (Explain file selection format) old new failure = IsQuiet old new × IsUnreportedPath file failure
-IsUndone (Page file only_recorded) old new failure = IsRefused old new failure × IsUnshownPath file failure
-IsUndone (View file selection format) old new failure = IsRefused old new failure × IsUnshownPath file failure
+IsUndone (Explain file selection format) old new failure =
+    IsQuiet old new × IsNotCarriedOut IsReadFrom (λ own. IsWriteFailure) file failure
+IsUndone (Page file only_recorded) old new failure =
+    IsRefused old new failure × IsNotCarriedOut IsReadFrom IsUnshown file failure
+IsUndone (View file selection format) old new failure =
+    IsRefused old new failure × IsNotCarriedOut IsReadFrom IsUnshown file failure
 IsUndone (Query file query_type input format) old new failure =
-    IsRefused old new failure × IsUnqueriedPath (query_of query_type input.items) file failure
+    IsRefused old new failure × IsUnqueried IsReadFrom (query_of query_type input.items) file failure
 IsUndone (Help text) old new failure = IsQuiet old new × (failure ≡ Output)
 IsUndone _ old new failure = ⊥

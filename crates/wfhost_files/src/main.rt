@@ -3,18 +3,19 @@
 
 ghost use Rattle.std.specs.Prelude.{◌≡◌, IfErr, IfOk, map, string_bytes};
 ghost use Rattle.wfhost_files.specs.Commands.{IsUndone, Obeys};
-ghost use Rattle.wh_program.specs.Answers.{Answers, AskForNothing};
+ghost use Rattle.wh_diagnostics.specs.Answers.{Answers, AskForNothing};
 
 use std::io::Write;
 use std::process::ExitCode;
 use std::rt::Runtime;
 use wh_command_line::Plan;
 use wh_console::{Console, ErrorPrinter};
-use wh_diagnostics::{Failure, print};
+use wh_diagnostics::{
+    Failure, UNCALLED, fail, fail_under, lack, output, plan, print, program_name, words,
+};
 use wh_file_commands::{explain_path, page_path, query_path, view_path};
-use wh_program::{UNCALLED, called, fail, fail_under, lack, output, plan, words};
-use wh_queryable::Queryable;
-use wh_registered::{Registered, types};
+use wh_sample_workflows::{Registered, types};
+use wh_workflow::Queryable;
 
 /// What the commands are called.
 const COMMANDS: &str = "the commands explain and query";
@@ -81,7 +82,7 @@ fn answer<W: Queryable, R: Runtime + AllocGlobal, O: Write, E: Write>(
 fn run_words<W: Queryable, R: Runtime + AllocGlobal>(rt: &R, words: &[String]) -> u8
     ensures { AskForNothing (map string_bytes words.now) → result ≡ 2 }
 {
-    let name = called(words);
+    let name = program_name(words);
     match output(rt) {
         Ok(output) => {
             let mut console = Console::new(name, output, ErrorPrinter::new(rt));

@@ -6,21 +6,21 @@ use Rattle.wh_console.specs.Consoles.{ConsoleView, IsQuiet}
 use Rattle.wh_diagnostics.specs.Printing.{HasPrinted}
 use Rattle.wh_diagnostics.specs.declared.failures.Failure.{Failure}
 use Rattle.wh_diagnostics.specs.declared.failures.Failure.TheVariants.{Output}
-use Rattle.wh_program.specs.Commands.{HasLacked}
+use Rattle.wh_diagnostics.specs.Commands.{HasLacked}
 use Rattle.wh_replay_command.specs.Replays.{HasNotReplayedPaths, HasReplayedPaths}
 use Rattle.wh_workflow.specs.Law.{Program}
 
 -- what a plan asks for was done, or that the program lacks its command was reported
 abbrev pub Obeys : {S : Type 0} → Program S → (types : List ℕ) → Plan → (old new : ConsoleView) → (status : ℕ)
     → Type 0
-Obeys program types (Replay dir more format required strict progress) old new status =
-    HasReplayedPaths program types dir more.items format required strict progress old new status
-Obeys program types (Help text) old new status = HasPrinted text old new status
+Obeys program types (Replay dir more options) old new status =
+    HasReplayedPaths program types dir more.items options old new status
+Obeys program types (Help text) old new status = HasPrinted text 0 old new status
 Obeys program types _ old new status = HasLacked (codes "the command replay") old new status
 
 -- what a plan asks for failed; what `replay` left, its own definition says
 abbrev pub IsUndone : {S : Type 0} → Program S → Plan → (old new : ConsoleView) → Failure → Type 0
-IsUndone program (Replay dir more format required strict progress) old new failure =
-    HasNotReplayedPaths program dir more.items strict progress old new failure
+IsUndone program (Replay dir more options) old new failure =
+    HasNotReplayedPaths program dir more.items options old new failure
 IsUndone program (Help text) old new failure = IsQuiet old new × (failure ≡ Output)
 IsUndone program _ old new failure = ⊥

@@ -3,7 +3,7 @@
 
 ghost use Rattle.std.specs.Prelude.{◌≡◌, IfErr, IfOk, map, string_bytes};
 ghost use Rattle.wfhost_replay.specs.Commands.{IsUndone, Obeys};
-ghost use Rattle.wh_program.specs.Answers.{Answers, AskForNothing};
+ghost use Rattle.wh_diagnostics.specs.Answers.{Answers, AskForNothing};
 
 use std::io::Write;
 use std::process::ExitCode;
@@ -11,10 +11,11 @@ use std::rt::Runtime;
 use std::thread::Threads;
 use wh_command_line::Plan;
 use wh_console::{Console, ErrorPrinter};
-use wh_diagnostics::{Failure, print};
-use wh_program::{UNCALLED, called, fail, fail_under, lack, output, plan, words};
-use wh_registered::{Registered, types};
+use wh_diagnostics::{
+    Failure, UNCALLED, fail, fail_under, lack, output, plan, print, program_name, words,
+};
 use wh_replay_command::replay_paths;
+use wh_sample_workflows::{Registered, types};
 use wh_workflow::Workflow;
 
 /// What the commands are called.
@@ -35,24 +36,9 @@ where
     ensures stopped { IfErr result (IsUndone W.program plan console.old console.new) }
 {
     match plan {
-        Plan::Replay {
-            dir,
-            more,
-            format,
-            require_files,
-            strict_values,
-            progress,
-        } => replay_paths::<W, R, O, E>(
-            rt,
-            dir,
-            more,
-            format,
-            require_files,
-            strict_values,
-            progress,
-            types,
-            console,
-        ),
+        Plan::Replay { dir, more, options } => {
+            replay_paths::<W, R, O, E>(rt, dir, more, options, types, console)
+        }
         Plan::Help { text } => print(text.get(), console),
         _ => Ok(lack(COMMANDS, console)),
     }
@@ -92,7 +78,7 @@ where
     R::Dir: Send,
     ensures { AskForNothing (map string_bytes words.now) → result ≡ 2 }
 {
-    let name = called(words);
+    let name = program_name(words);
     match output(rt) {
         Ok(output) => {
             let mut console = Console::new(name, output, ErrorPrinter::new(rt));

@@ -7,7 +7,7 @@ use Rattle.wh_console.specs.Consoles.{ConsoleView, IsQuiet}
 use Rattle.wh_diagnostics.specs.Printing.{HasPrinted}
 use Rattle.wh_diagnostics.specs.declared.failures.Failure.{Failure}
 use Rattle.wh_diagnostics.specs.declared.failures.Failure.TheVariants.{Output}
-use Rattle.wh_program.specs.Commands.{HasLacked}
+use Rattle.wh_diagnostics.specs.Commands.{HasLacked}
 use Rattle.wh_service_command.specs.Commands.{HasNotServedFolder, HasServedFolder}
 use Rattle.wh_workflow.specs.Law.{Program}
 
@@ -16,7 +16,7 @@ abbrev pub Obeys : {S : Type 0} → Program S → (types : List ℕ) → Plan �
     → Type 0
 Obeys program types (Serve dir options required progress) old new status =
     HasServedFolder program types dir (sizes_of options) required progress old new status
-Obeys program types (Help text) old new status = HasPrinted text old new status
+Obeys program types (Help text) old new status = HasPrinted text 0 old new status
 Obeys program types _ old new status = HasLacked (codes "the command serve") old new status
 
 -- what a plan asks for failed; what `serve` left, its own definition says

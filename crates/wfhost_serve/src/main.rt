@@ -3,7 +3,7 @@
 
 ghost use Rattle.std.specs.Prelude.{◌≡◌, IfErr, IfOk, map, string_bytes};
 ghost use Rattle.wfhost_serve.specs.Commands.{IsUndone, Obeys};
-ghost use Rattle.wh_program.specs.Answers.{Answers, AskForNothing};
+ghost use Rattle.wh_diagnostics.specs.Answers.{Answers, AskForNothing};
 
 use std::io::Write;
 use std::process::ExitCode;
@@ -12,9 +12,10 @@ use std::sync::Wait;
 use std::thread::Threads;
 use wh_command_line::Plan;
 use wh_console::{Console, ErrorPrinter};
-use wh_diagnostics::{Failure, print};
-use wh_program::{UNCALLED, called, fail, fail_under, lack, output, plan, words};
-use wh_registered::{Registered, types};
+use wh_diagnostics::{
+    Failure, UNCALLED, fail, fail_under, lack, output, plan, print, program_name, words,
+};
+use wh_sample_workflows::{Registered, types};
 use wh_service_command::serve_folder;
 use wh_workflow::Workflow;
 
@@ -81,7 +82,7 @@ where
     R::Dir: Send,
     ensures { AskForNothing (map string_bytes words.now) → result ≡ 2 }
 {
-    let name = called(words);
+    let name = program_name(words);
     match output(rt) {
         Ok(output) => {
             let mut console = Console::new(name, output, ErrorPrinter::new(rt));

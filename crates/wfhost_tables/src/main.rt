@@ -3,18 +3,18 @@
 
 ghost use Rattle.std.specs.Prelude.{◌≡◌, IfErr, IfOk, map, string_bytes};
 ghost use Rattle.wfhost_tables.specs.Commands.{IsUndone, Obeys};
-ghost use Rattle.wh_program.specs.Answers.{Answers, AskForNothing};
+ghost use Rattle.wh_diagnostics.specs.Answers.{Answers, AskForNothing};
 
 use std::io::Write;
 use std::process::ExitCode;
 use std::rt::Runtime;
 use wh_command_line::Plan;
 use wh_console::{Console, ErrorPrinter};
-use wh_diagnostics::{Failure, print};
-use wh_program::{UNCALLED, called, fail, fail_under, lack, output, plan, words};
-use wh_promise_findings::Promises;
-use wh_registered::types;
-use wh_table_commands::{check_paths, picture_path, try_path};
+use wh_diagnostics::{
+    Failure, UNCALLED, fail, fail_under, lack, output, plan, print, program_name, words,
+};
+use wh_sample_workflows::types;
+use wh_table_commands::{Promises, check_paths, picture_path, try_path};
 
 /// What the commands are called.
 const COMMANDS: &str = "the commands check and try";
@@ -65,7 +65,7 @@ fn answer<R: Runtime + AllocGlobal, O: Write, E: Write>(
 fn run_words<R: Runtime + AllocGlobal>(rt: &R, words: &[String]) -> u8
     ensures { AskForNothing (map string_bytes words.now) → result ≡ 2 }
 {
-    let name = called(words);
+    let name = program_name(words);
     match output(rt) {
         Ok(output) => {
             let mut console = Console::new(name, output, ErrorPrinter::new(rt));

@@ -142,7 +142,7 @@ impl<W: Workflow> Sticky<W> {
     }
 
     /// Returns the weight of all cached runs together.
-    pub fn held(&self) -> u64
+    pub fn total_weight(&self) -> u64
         ensures { result ≡ held_by self.now.runs }
     {
         self.held
@@ -179,7 +179,7 @@ impl<W: Workflow> Sticky<W> {
         ensures needed { OnErr result (NeedsMemory self.old run) }
         ensures unchanged { OnErr result (self.new ≡ self.old) }
     {
-        let going = self.going(&run);
+        let going = self.count_evictions(&run);
         let Some(mut gone) = room_for(self.alloc, going) else {
             return Err(run);
         };
@@ -214,7 +214,7 @@ impl<W: Workflow> Sticky<W> {
 
     /// Counts the runs to evict, the last first, once this run is in front. The run is what replay
     /// of its held events gives.
-    fn going(&self, run: &Run<W>) -> usize
+    fn count_evictions(&self, run: &Run<W>) -> usize
         requires { MayEnter self.now run.now }
         ensures count { result < length (with_first (entry_of run.now) self.now.runs) }
         ensures most { FitMost self.now (with_first (entry_of run.now) self.now.runs)
@@ -224,13 +224,13 @@ impl<W: Workflow> Sticky<W> {
         // Made for the proof: its contract says that the run is replayed.
         run.invariant();
         let left = room_beside(self.bound, weight_of(run));
-        let count = self.others(run.key());
+        let count = self.count_others(run.key());
         let held = self.held - replaced_weight(&self.runs, run.key());
         going_beside(&self.runs, run.key(), count, held, self.capacity - 1, left)
     }
 
     /// Counts the cached runs of other keys. No two runs have the same key.
-    fn others(&self, key: &RunKey) -> usize
+    fn count_others(&self, key: &RunKey) -> usize
         ensures distinct { IsDistinct same_key (keys_of self.now.runs) }
         ensures count { result ≡ length (remove_entry (same_key key.now) self.now.runs) }
     {

@@ -1,46 +1,48 @@
 -- The statuses with which the program ends.
 use Rattle.std.proofs.Common.{◌≡◌, ◌≤◌, ℕ, Bool, true, false, List, Option, Some, None, inl, inr, arith}
-use Rattle.wh_cli.specs.Private.Commands.{IsStopped, Obeys}
+use Rattle.wh_cli.specs.Private.Commands.{IsUndone, Obeys}
 use Rattle.wh_command_line.specs.declared.command_line.Plan.{Plan}
 use Rattle.wh_command_line.specs.declared.command_line.Plan.TheVariants.{Replay, Explain, Page, View, Query, Check, Picture, Try, Serve, Work, Help}
 use Rattle.wh_console.specs.Consoles.{ConsoleView}
-use Rattle.wh_file_commands.specs.Pages.{HasPagedPath}
-use Rattle.wh_program.specs.Answers.{Answers}
-use Rattle.wh_queryable.specs.Queries.{Queries}
+use Rattle.wh_console.specs.Inputs.{IsReadFrom}
+use Rattle.wh_diagnostics.specs.Files.{HasCarriedOut}
+use Rattle.wh_file_commands.specs.Pages.{HasPaged}
+use Rattle.wh_diagnostics.specs.Answers.{Answers}
+use Rattle.wh_workflow.specs.Queries.{Queries}
 use Rattle.wh_table_trial.specs.Commands.{status_by}
-use Rattle.wh_table_trial.specs.declared.running.Difference.{Difference}
+use Rattle.wh_table_trial.specs.declared.running.TrialDifference.{TrialDifference}
 use Rattle.wh_work.specs.Plans.{LivesBy}
 use Rattle.wh_workflow.specs.Law.{Program}
 
 same : (status given : ℕ) → status ≡ given → given ≤ 3 → status ≤ 3
 same status given is within = omega arith
 
-tried : (difference : Option Difference) → status_by difference ≤ 3
+tried : (difference : Option TrialDifference) → status_by difference ≤ 3
 tried None = omega arith
 tried (Some difference) = omega arith
 
-paged : {S : Type 0} (program : Program S) (only_recorded : Bool) (path : List ℕ) (old new : ConsoleView) (status : ℕ) → HasPagedPath program only_recorded path old new status → status ≤ 3
-paged program true path old new status h = (let is = h.paged.paged.paged.shows.found.1 in omega arith)
-paged program false path old new status h = (let is = h.paged.paged.paged.shows.found.ends in grind arith)
+paged : {S : Type 0} (program : Program S) (only_recorded : Bool) (path : List ℕ) (old new : ConsoleView) (status : ℕ) → HasCarriedOut IsReadFrom (HasPaged program only_recorded) path old new status → status ≤ 3
+paged program true path old new status h = (let is = h.done.paged.shows.found.1 in omega arith)
+paged program false path old new status h = (let is = h.done.paged.shows.found.ends in grind arith)
 
 -- what a plan asks for gives one of the documented statuses
 obeyed : {S : Type 0} (program : Program S) (queries : Queries S) (lives : LivesBy) (types : List ℕ) (plan : Plan) (old new : ConsoleView) (status : ℕ)
     → Obeys program queries lives types plan old new status → status ≤ 3
-obeyed program queries lives types (Replay dir more format required strict progress) old new status h = (let is = h.replayed.reported.ends in grind arith)
-obeyed program queries lives types (Explain file selection format) old new status h = (let is = h.explained.explained.ends in grind arith)
+obeyed program queries lives types (Replay dir more options) old new status h = (let is = h.done.1.reported.ends in grind arith)
+obeyed program queries lives types (Explain file selection format) old new status h = (let is = h.done.ends in grind arith)
 obeyed program queries lives types (Page file only_recorded) old new status h = paged program only_recorded file old new status h
-obeyed program queries lives types (View file selection format) old new status h = (let is = h.viewed.viewed.printed.ends in omega arith)
-obeyed program queries lives types (Query file query_type input format) old new status h = (let is = h.queried.queried.ends in grind arith)
-obeyed program queries lives types (Check file more format) old new status h = (let is = h.checked.checked.ends in grind arith)
-obeyed program queries lives types (Picture file) old new status h = (let is = h.drawn.ends in grind arith)
-obeyed program queries lives types (Try file scenario) old new status h = same status _ h.tried.ends (tried _)
+obeyed program queries lives types (View file selection format) old new status h = (let is = h.done.printed.ends in omega arith)
+obeyed program queries lives types (Query file query_type input format) old new status h = (let is = h.done.ends in grind arith)
+obeyed program queries lives types (Check file more format) old new status h = (let is = h.done.printed.ends in grind arith)
+obeyed program queries lives types (Picture file) old new status h = (let is = h.done.printed.ends in grind arith)
+obeyed program queries lives types (Try file scenario) old new status h = same status _ h.done.printed.ends (tried _)
 obeyed program queries lives types (Serve dir options required progress) old new status h =
-    (let is = h.served.ends in let own = h.served.served.ends in grind arith)
+    (let is = h.done.1.ends in let own = h.done.1.served.ends in grind arith)
 obeyed program queries lives types (Work options) old new status h = (let is = h.ends in grind arith)
 obeyed program queries lives types (Help text) old new status h = (let is = h.ends in omega arith)
 
 -- so does each answer
 pub documented : {S : Type 0} (program : Program S) (queries : Queries S) (lives : LivesBy) (types : List ℕ) (words : List (List ℕ)) (old new : ConsoleView) (status : ℕ)
-    → Answers (Obeys program queries lives types) (IsStopped program) words old new status → status ≤ 3
+    → Answers (Obeys program queries lives types) (IsUndone program) words old new status → status ≤ 3
 documented program queries lives types words old new status (inl h) = obeyed program queries lives types h.plan old new status h.obeys
 documented program queries lives types words old new status (inr h) = (let is = h.failed.ends in omega arith)

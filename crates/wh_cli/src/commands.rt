@@ -1,8 +1,7 @@
 //! Each plan, and the command that carries it out.
 
 ghost use Rattle.std.specs.Prelude.{◌≡◌, IfErr, IfOk};
-ghost use Rattle.wh_cli.specs.Private.Commands.{HasReplayResult, HasWorked, IsReplay, IsUndone, IsWorkFailure};
-ghost use Rattle.wh_cli.specs.Private.Commands.{MayFailWith, Obeys, plan_failure};
+ghost use Rattle.wh_cli.specs.Private.Commands.{HasWorked, IsUndone, IsWorkFailure, Obeys, plan_failure};
 ghost use Rattle.wh_command_line.specs.Options.{IsWithinLimits, IsWithinWorkLimits};
 ghost use Rattle.wh_work.specs.Plans.{MayServe, lives};
 
@@ -15,12 +14,11 @@ use wh_console::Console;
 use wh_diagnostics::{Failure, print};
 use wh_events::OutOfMemory;
 use wh_file_commands::{explain_path, page_path, query_path, view_path};
-use wh_promise_findings::Promises;
-use wh_queryable::Queryable;
 use wh_replay_command::replay_paths;
 use wh_service_command::serve_folder;
-use wh_table_commands::{check_paths, picture_path, try_path};
+use wh_table_commands::{Promises, check_paths, picture_path, try_path};
 use wh_work::{LivePlan, LiveReport, PlanFault, WorkEnd, live_plan, live_status};
+use wh_workflow::Queryable;
 
 /// Returns why there is no full report, from why there is no plan to serve live tasks.
 fn failure_of(fault: PlanFault) -> Failure
@@ -68,44 +66,6 @@ where
     Ok(status)
 }
 
-/// Replays the files that a plan of `replay` names. `types` are the registered workflow types.
-fn replay<W: Queryable + Send, R: Runtime + AllocGlobal + Threads + Sync, O: Write, E: Write>(
-    rt: &R,
-    types: &str,
-    plan: Plan,
-    console: &mut Console<'_, O, E>,
-) -> Result<u8, Failure>
-where
-    R::File: Send,
-    R::Dir: Send,
-    requires { IsReplay plan }
-    ensures replayed { IfOk result (HasReplayResult W.program types.now plan console.old console.new) }
-    ensures stopped { IfErr result (IsUndone W.program plan console.old console.new) }
-{
-    let Plan::Replay {
-        dir,
-        more,
-        format,
-        require_files,
-        strict_values,
-        progress,
-    } = plan
-    else {
-        unreachable!()
-    };
-    replay_paths::<W, R, O, E>(
-        rt,
-        dir,
-        more,
-        format,
-        require_files,
-        strict_values,
-        progress,
-        types,
-        console,
-    )
-}
-
 /// Does what is asked for, and returns the status, or why there is none. `types` are the registered
 /// workflow types.
 pub(crate) fn obey<
@@ -124,10 +84,11 @@ where
     ensures obeys { IfOk result
         (Obeys W.program W.queries (lives (F.post live)) types.now plan console.old console.new) }
     ensures stopped { IfErr result (IsUndone W.program plan console.old console.new) }
-    ensures why { IfErr result (MayFailWith plan) }
 {
     match plan {
-        Plan::Replay { .. } => replay::<W, R, O, E>(rt, types, plan, console),
+        Plan::Replay { dir, more, options } => {
+            replay_paths::<W, R, O, E>(rt, dir, more, options, types, console)
+        }
         Plan::Explain {
             file,
             selection,

@@ -3,7 +3,7 @@
 use std::alloc::Global;
 use std::env::Env;
 use std::sync::Wait;
-use wh_program::{UNCALLED, called, words};
+use wh_diagnostics::{UNCALLED, program_name, words};
 use wh_rpc::Caller;
 
 /// Reads the standard input, until it ends, and gives each response to the call that waits for it.
@@ -18,7 +18,7 @@ pub fn read_input<R: Env + AllocGlobal + Wait + Input + Eprint, C: Caller>(
     calls: &C,
 ) {
     match words(rt) {
-        Ok(words) => wh_crew::read_input(rt, alloc, called(words.as_slice()), calls),
+        Ok(words) => wh_crew::read_input(rt, alloc, program_name(words.as_slice()), calls),
         Err(_) => wh_crew::read_input(rt, alloc, UNCALLED, calls),
     }
 }

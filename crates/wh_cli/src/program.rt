@@ -2,10 +2,10 @@
 
 ghost use Rattle.std.specs.Prelude.{◌≡◌, ◌≤◌, map, string_bytes};
 ghost use Rattle.std.specs.Process.{exit_status};
-ghost use Rattle.wh_cli.specs.Private.Commands.{IsStopped, Obeys};
+ghost use Rattle.wh_cli.specs.Private.Commands.{IsUndone, Obeys};
 ghost use Rattle.wh_work.specs.Plans.{MayServe, lives};
 ghost use Rattle.wh_host.specs.Machine.{IsConfig};
-ghost use Rattle.wh_program.specs.Answers.{Answers, AskForNothing};
+ghost use Rattle.wh_diagnostics.specs.Answers.{Answers, AskForNothing};
 
 use crate::commands::obey;
 use std::io::Write;
@@ -13,14 +13,14 @@ use std::process::ExitCode;
 use std::rt::Runtime;
 use std::sync::Wait;
 use std::thread::Threads;
-use wh_activities::{HeartbeatHandler, WithoutHeartbeat};
 use wh_console::{Console, ErrorPrinter};
+use wh_diagnostics::{UNCALLED, fail, fail_under, output, plan, program_name, words};
 use wh_events::OutOfMemory;
 use wh_poll::ActivityHandler;
-use wh_program::{UNCALLED, called, fail, fail_under, output, plan, words};
-use wh_queryable::Queryable;
 use wh_rpc::Caller;
+use wh_tasks::{HeartbeatHandler, WithoutHeartbeat};
 use wh_work::{FileReplacer, LivePlan, WorkEnd, serve_calls};
+use wh_workflow::Queryable;
 
 /// Does what the words of the command line ask for, or reports why there is no full report, and
 /// returns the status.
@@ -36,7 +36,7 @@ where
     R::Dir: Send,
     F: Drop,
     requires { MayServe (F.pre live) }
-    ensures { Answers (Obeys W.program W.queries (lives (F.post live)) types.now) (IsStopped W.program)
+    ensures { Answers (Obeys W.program W.queries (lives (F.post live)) types.now) (IsUndone W.program)
         (map string_bytes words.now) console.old console.new result }
 {
     match plan(rt.alloc(), types, words) {
@@ -63,7 +63,7 @@ where
     ensures documented { result ≤ 3 }
     ensures refused { AskForNothing (map string_bytes words.now) → result ≡ 2 }
 {
-    let name = called(words);
+    let name = program_name(words);
     match output(rt) {
         Ok(output) => {
             let mut console = Console::new(name, output, ErrorPrinter::new(rt));
@@ -92,7 +92,7 @@ where
     ensures documented { result ≤ 3 }
     ensures refused { AskForNothing (map string_bytes words.now) → result ≡ 2 }
 {
-    let name = called(words);
+    let name = program_name(words);
     let live = |plan: LivePlan| -> Result<WorkEnd, OutOfMemory>
         requires sizes { IsConfig plan.config }
         requires listens { L.IsAlwaysCallable listen }
@@ -163,25 +163,4 @@ where
         requires { M.IsAlwaysCallable make }
     { WithoutHeartbeat { handler: make() } };
     run_with_heartbeats::<W, R, C, L, WithoutHeartbeat<A>, _>(rt, types, calls, listen, make_silent)
-}
-
-/// Runs the program as `run_with_types` does, with a help that lists no workflow types.
-pub fn run<
-    W: Queryable + Send,
-    R: Runtime + AllocGlobal + Threads + Wait + Sync,
-    C: Caller + Sync,
-    L: FnOnce() -> bool,
-    A: ActivityHandler + Send + Drop,
-    M: Fn() -> A,
->(rt: &R, calls: &C, listen: L, make: M) -> ExitCode
-where
-    R::File: Send,
-    R::Dir: Send,
-    L: Drop,
-    M: Drop,
-    requires listens { L.IsAlwaysCallable listen }
-    requires makes { M.IsAlwaysCallable make }
-    ensures { exit_status result ≤ 3 }
-{
-    run_with_types::<W, R, C, L, A, M>(rt, "", calls, listen, make)
 }

@@ -6,8 +6,8 @@ use Rattle.std.specs.Prelude.{◌==◌, codes, length, true, Some, Result, Ok, E
 use Rattle.serde_json.specs.Data.{Data}
 use Rattle.wh_events.specs.declared.key.RunKey.{RunKey}
 use Rattle.wh_commands.specs.declared.names.WorkerNames.{WorkerNames}
-use Rattle.wh_requests.specs.Requests.{history}
-use Rattle.wh_responses.specs.Responses.{Page, page_in}
+use Rattle.wh_messages.specs.Requests.{history}
+use Rattle.wh_messages.specs.Responses.{Page, page_in}
 use Rattle.wh_client.specs.Calls.{Fails, Gives}
 use Rattle.wh_client.specs.Pages.{EndsPages, IsPageFault, IsPaged, Leads, ReadsNotOn, ReadsOn, all_members}
 use Rattle.wh_client.specs.declared.asking.AskFault.{AskFault}

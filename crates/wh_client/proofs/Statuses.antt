@@ -5,10 +5,10 @@ use Rattle.wh_client.specs.Refusals.{HasItsStatus, IsFaultOf, unanswered}
 use Rattle.wh_client.specs.declared.asking.AskFault.{AskFault}
 use Rattle.wh_rpc.specs.declared.call_fault.CallFault.{CallFault}
 use Rattle.wh_rpc.specs.declared.call_fault.CallFault.TheVariants as call
-use Rattle.wh_rpc.specs.declared.response.Outcome.{Outcome}
-use Rattle.wh_rpc.specs.declared.response.Outcome.TheVariants.{Given, Refused}
+use Rattle.wh_rpc.specs.declared.response.CallResult.{CallResult}
+use Rattle.wh_rpc.specs.declared.response.CallResult.TheVariants.{Given, Refused}
 use Rattle.wh_client.specs.declared.codes.Receipt.TheVariants as receipt
-use Rattle.wh_client.specs.declared.codes.Status.TheVariants as status
+use Rattle.wh_client.specs.declared.codes.StatusCode.TheVariants as status
 use Rattle.wh_client.specs.Codes.{AcceptedAnswers, AnswersByCode, KeepsOut, NoRunByCode, PollsByCode, RunsByReceipt}
 
 pub no_run_by_code : NoRunByCode
@@ -79,7 +79,7 @@ unanswered_status call.Output = tt
 unanswered_status call.OutOfMemory = tt
 
 -- the fault of a refused call has the status of its code
-pub has_its_status : (response : Result (ℕ × Outcome) CallFault) (fault : AskFault) → IsFaultOf response fault → HasItsStatus fault
+pub has_its_status : (response : Result (ℕ × CallResult) CallFault) (fault : AskFault) → IsFaultOf response fault → HasItsStatus fault
 has_its_status (Ok (id, Given value)) fault is = absurd is
 has_its_status (Ok (id, Refused code message)) fault is = subst HasItsStatus (sym is.2) is.1
 has_its_status (Err why) fault is = subst HasItsStatus (sym is) (unanswered_status why)

@@ -3,15 +3,15 @@ use Rattle.std.specs.Prelude.{ℕ, ℤ, List, Result, Ok, Err, string_bytes, ⊤
 use Rattle.serde_json.specs.Data.{Data}
 use Rattle.serde_json.specs.View.{view}
 use Rattle.wh_rpc.specs.declared.call_fault.CallFault.{CallFault}
-use Rattle.wh_rpc.specs.declared.response.Outcome.{Outcome}
-use Rattle.wh_rpc.specs.declared.response.Outcome.TheVariants.{Given, Refused}
+use Rattle.wh_rpc.specs.declared.response.CallResult.{CallResult}
+use Rattle.wh_rpc.specs.declared.response.CallResult.TheVariants.{Given, Refused}
 
 -- which results a request may get, by its method and its parameters
 abbrev pub Gives : Type 1
 Gives = List ℕ → Data → Data → Type 0
 
 -- this holds for the result, if there is one
-abbrev pub OnGiven : (Data → Type 0) → Outcome → Type 0
+abbrev pub OnGiven : (Data → Type 0) → CallResult → Type 0
 OnGiven p (Given value) = p (view value)
 OnGiven p (Refused code message) = Unit {0}
 
@@ -25,7 +25,7 @@ abbrev pub Fails : Type 1
 Fails = List ℕ → Data → NoResult → Type 0
 
 -- this holds for why there is no result, if there is none
-abbrev pub OnFailed : (NoResult → Type 0) → Result (ℕ × Outcome) CallFault → Type 0
+abbrev pub OnFailed : (NoResult → Type 0) → Result (ℕ × CallResult) CallFault → Type 0
 OnFailed p (Ok (id, Given value)) = ⊤
 OnFailed p (Ok (id, Refused code message)) = p (refused code (string_bytes message))
 OnFailed p (Err why) = p (no_response why)

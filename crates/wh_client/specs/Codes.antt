@@ -1,14 +1,14 @@
 -- What the status codes of refused calls mean.
 use Rattle.std.specs.Prelude.{◌≡◌, ◌≢◌, ◌↔◌, ◌⊎◌, ℤ, pos, Bool, true, false}
-use Rattle.wh_client.specs.declared.codes.Status.{Status}
-use Rattle.wh_client.specs.declared.codes.Status.TheVariants as status
+use Rattle.wh_client.specs.declared.codes.StatusCode.{StatusCode}
+use Rattle.wh_client.specs.declared.codes.StatusCode.TheVariants as status
 use Rattle.wh_client.specs.declared.codes.PollEnd.{PollEnd}
 use Rattle.wh_client.specs.declared.codes.PollEnd.TheVariants as poll
 use Rattle.wh_client.specs.declared.codes.Receipt.{Receipt}
 use Rattle.wh_client.specs.declared.codes.Receipt.TheVariants as receipt
 
 -- the code is one of this status
-abbrev pub HasCode : Status → ℤ → Type 0
+abbrev pub HasCode : StatusCode → ℤ → Type 0
 HasCode status.Cancelled code = code ≡ pos 1
 HasCode status.InvalidArgument code = code ≡ pos 3
 HasCode status.NotFound code = code ≡ pos 5
@@ -19,7 +19,7 @@ HasCode status.Other code =
 
 -- a canceled poll means that there are no more tasks; if what is polled does not exist, or the worker may not poll it,
 -- no later poll can succeed; otherwise one may
-abbrev pub poll_end : Status → PollEnd
+abbrev pub poll_end : StatusCode → PollEnd
 poll_end status.Cancelled = poll.Closed
 poll_end status.InvalidArgument = poll.Never
 poll_end status.NotFound = poll.Never
@@ -33,7 +33,7 @@ accepted_answer true = receipt.Discarded
 accepted_answer false = receipt.Acknowledged
 
 -- what became of a refused answer: its task is over, or the server has failed the task; otherwise it is lost
-abbrev pub refused_answer : Status → Receipt
+abbrev pub refused_answer : StatusCode → Receipt
 refused_answer status.Cancelled = receipt.Lost
 refused_answer status.InvalidArgument = receipt.Invalid
 refused_answer status.NotFound = receipt.NotFound
@@ -69,7 +69,7 @@ keeps_run receipt.NoMemory = false
 
 -- the run of a task is never cached after a refusal
 abbrev pub NoRunByCode : Type 0
-NoRunByCode = (of : Status) → keeps_run (refused_answer of) ≡ false
+NoRunByCode = (of : StatusCode) → keeps_run (refused_answer of) ≡ false
 
 -- the worker is not let in: the request is invalid, or its namespace does not exist, or the worker may not poll there,
 -- or is not authenticated
@@ -79,13 +79,13 @@ KeepsOut code = (code ≡ pos 3) ⊎ ((code ≡ pos 5) ⊎ ((code ≡ pos 7) ⊎
 -- a refused poll ends polling exactly if it was canceled, and polling fails for good exactly if the worker is not let
 -- in
 abbrev pub PollsByCode : Type 0
-PollsByCode = (of : Status) (code : ℤ) → HasCode of code
+PollsByCode = (of : StatusCode) (code : ℤ) → HasCode of code
     → ((poll_end of ≡ poll.Closed) ↔ (code ≡ pos 1)) × ((poll_end of ≡ poll.Never) ↔ KeepsOut code)
 
 -- a refused answer counts as taken exactly if the server no longer needs it: the task is over, or the server has failed
 -- it
 abbrev pub AnswersByCode : Type 0
-AnswersByCode = (of : Status) (code : ℤ) → HasCode of code
+AnswersByCode = (of : StatusCode) (code : ℤ) → HasCode of code
     → (is_taken (refused_answer of) ≡ true) ↔ ((code ≡ pos 5) ⊎ (code ≡ pos 3))
 
 -- an accepted answer counts as taken, and the run of its task is cached exactly if the server did not discard the task

@@ -7,9 +7,9 @@ use Rattle.wh_client.specs.Requests.{IsRequest}
 use Rattle.wh_client.specs.declared.requests.Request.{Request}
 use Rattle.wh_commands.specs.ReadBack.{text_at}
 use Rattle.wh_commands.specs.declared.names.WorkerNames.{WorkerNames}
-use Rattle.wh_requests.specs.Heartbeats.{activity_canceled, activity_heartbeat}
-use Rattle.wh_requests.specs.Requests.{activity_failed}
-use Rattle.wh_responses.specs.Heartbeats.{is_cancel_requested}
+use Rattle.wh_messages.specs.Heartbeats.{activity_canceled, activity_heartbeat}
+use Rattle.wh_messages.specs.Requests.{activity_failed}
+use Rattle.wh_messages.specs.CancelRequests.{is_cancel_requested}
 
 -- the server returned a result for a heartbeat of the task of a token, which says whether the activity is to be
 -- canceled

@@ -11,7 +11,7 @@ use Rattle.wh_client.specs.Pages.{BeginsNot, BeginsWith, ReadsOn}
 use Rattle.wh_client.specs.declared.asking.AskFault.{AskFault}
 use Rattle.wh_client.specs.declared.asking.AskFault.TheVariants as asked
 use Rattle.wh_commands.specs.CarryingOver.{Carried, carried_in}
-use Rattle.wh_responses.specs.Responses.{Page}
+use Rattle.wh_messages.specs.Responses.{Page}
 
 -- the members of a history are read as these events
 abbrev pub ReadsEvents : List Data → List Event → Type 0

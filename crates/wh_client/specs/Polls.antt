@@ -3,10 +3,10 @@ use Rattle.std.specs.Prelude.{◌≡◌, ◌⊎◌, ℕ, List, Bool, codes}
 use Rattle.serde_json.specs.Data.{Data}
 use Rattle.serde_json.specs.View.{view}
 use Rattle.wh_commands.specs.declared.names.WorkerNames.{WorkerNames}
-use Rattle.wh_responses.specs.declared.response.ActivityPoll.{ActivityPoll}
-use Rattle.wh_responses.specs.declared.response.QueryPoll.{QueryPoll}
-use Rattle.wh_requests.specs.Requests.{poll_workflow, poll_activity}
-use Rattle.wh_responses.specs.Responses.{Poll, query, workflow_poll, activity_poll}
+use Rattle.wh_messages.specs.declared.response.ActivityPoll.{ActivityPoll}
+use Rattle.wh_messages.specs.declared.response.QueryPoll.{QueryPoll}
+use Rattle.wh_messages.specs.Requests.{poll_workflow, poll_activity}
+use Rattle.wh_messages.specs.Responses.{Poll, query, workflow_poll, activity_poll}
 use Rattle.wh_rpc.specs.declared.call_fault.CallFault.TheVariants.{Output}
 use Rattle.wh_client.specs.Calls.{Fails, Gives, NoResult, no_response, refused}
 use Rattle.wh_client.specs.Codes.{KeepsOut}

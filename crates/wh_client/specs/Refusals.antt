@@ -4,13 +4,13 @@ use Rattle.wh_client.specs.Calls.{NoResult, no_response, refused}
 use Rattle.wh_client.specs.Codes.{HasCode}
 use Rattle.wh_client.specs.declared.asking.AskFault.{AskFault}
 use Rattle.wh_client.specs.declared.asking.AskFault.TheVariants as asked
-use Rattle.wh_client.specs.declared.codes.Status.{Status}
-use Rattle.wh_client.specs.declared.codes.Status.TheVariants.{Other}
-use Rattle.wh_responses.specs.Refusals as server
+use Rattle.wh_client.specs.declared.codes.StatusCode.{StatusCode}
+use Rattle.wh_client.specs.declared.codes.StatusCode.TheVariants.{Other}
+use Rattle.wh_messages.specs.Refusals as server
 use Rattle.wh_rpc.specs.declared.call_fault.CallFault.{CallFault}
 use Rattle.wh_rpc.specs.declared.call_fault.CallFault.TheVariants as call
-use Rattle.wh_rpc.specs.declared.response.Outcome.{Outcome}
-use Rattle.wh_rpc.specs.declared.response.Outcome.TheVariants.{Given, Refused}
+use Rattle.wh_rpc.specs.declared.response.CallResult.{CallResult}
+use Rattle.wh_rpc.specs.declared.response.CallResult.TheVariants.{Given, Refused}
 
 -- ---- The fault of a call
 
@@ -21,13 +21,13 @@ unanswered call.Output = asked.Output
 unanswered call.OutOfMemory = asked.OutOfMemory
 
 -- the fault of a refused call: its code and its message, with the status of the code
-abbrev pub IsRefusal : Outcome → AskFault → Type 0
+abbrev pub IsRefusal : CallResult → AskFault → Type 0
 IsRefusal (Given value) fault = ⊥
 IsRefusal (Refused code message) fault =
-    (status : Status) × HasCode status code × (fault ≡ asked.Refused status code message)
+    (status : StatusCode) × HasCode status code × (fault ≡ asked.Refused status code message)
 
 -- the fault of a call, by its response
-abbrev pub IsFaultOf : Result (ℕ × Outcome) CallFault → AskFault → Type 0
+abbrev pub IsFaultOf : Result (ℕ × CallResult) CallFault → AskFault → Type 0
 IsFaultOf (Ok responded) fault = IsRefusal responded.1 fault
 IsFaultOf (Err why) fault = fault ≡ unanswered why
 

@@ -9,8 +9,8 @@ use Rattle.wh_client.specs.declared.requests.Request.{Request}
 use Rattle.wh_commands.specs.declared.fault.RequestFault.{RequestFault}
 use Rattle.wh_commands.specs.declared.fault.RequestFault.TheVariants.{OutOfMemory}
 use Rattle.wh_commands.specs.declared.names.WorkerNames.{WorkerNames}
-use Rattle.wh_requests.specs.Requests.{shutdown}
-use Rattle.wh_responses.specs.Completions.{is_discarded}
+use Rattle.wh_messages.specs.Requests.{shutdown}
+use Rattle.wh_messages.specs.Completions.{is_discarded}
 
 -- a call of this method with these parameters
 pub record IsRequest (request : Request) (method : List ℕ) (params : Data) : Type 0 where

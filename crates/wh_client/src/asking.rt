@@ -2,18 +2,18 @@
 
 ghost use Rattle.std.specs.Prelude.{◌≡◌, ◌↔◌, true, IfErr, IfOk, Ok};
 ghost use Rattle.serde_json.specs.View.{view};
-ghost use Rattle.wh_rpc.specs.declared.response.Outcome.TheVariants.{Given};
+ghost use Rattle.wh_rpc.specs.declared.response.CallResult.TheVariants.{Given};
 ghost use Rattle.wh_client.specs.Refusals.{HasItsStatus, IsFaultBy, IsFaultOf, IsTooLarge, unanswered};
 ghost use Rattle.wh_client.specs.declared.asking.AskFault.TheVariants.{OutOfMemory as NoMemory};
 
-use crate::codes::{Status, status_of};
+use crate::codes::{StatusCode, status_of};
 use crate::connection::Connection;
 use serde_json::Value;
 use std::alloc::AllocError;
 use wh_events::OutOfMemory;
 use wh_json::ReadFault;
-use wh_responses::is_too_large;
-use wh_rpc::{CallFault, Outcome};
+use wh_messages::is_too_large;
+use wh_rpc::{CallFault, CallResult};
 
 /// Why a call has no usable result.
 #[derive(Debug, Drop)]
@@ -25,7 +25,7 @@ pub enum AskFault {
     /// The server refused it, with an error.
     Refused {
         /// The status of its code.
-        status: Status,
+        status: StatusCode,
         /// Its code (gRPC, "Status codes").
         code: i64,
         /// Its message.
@@ -75,7 +75,7 @@ impl AskFault {
 }
 
 /// Returns the fault of a call that got no response.
-fn unanswered(why: CallFault) -> AskFault
+fn fault_of_call(why: CallFault) -> AskFault
     ensures { result ≡ unanswered why }
 {
     match why {
@@ -87,18 +87,18 @@ fn unanswered(why: CallFault) -> AskFault
 
 /// Returns the id and the result of a call, or its fault: the code and the message of a refusal,
 /// with the status of the code, or why there was no response.
-fn result_of(response: Result<(u64, Outcome), CallFault>) -> Result<(u64, Value), AskFault>
+fn result_of(response: Result<(u64, CallResult), CallFault>) -> Result<(u64, Value), AskFault>
     ensures given { IfOk result (λ given. response ≡ Ok (given.0, Given given.1)) }
     ensures refused { IfErr result (IsFaultOf response) }
 {
     match response {
-        Ok((id, Outcome::Given(value))) => Ok((id, value)),
-        Ok((_id, Outcome::Refused { code, message })) => Err(AskFault::Refused {
+        Ok((id, CallResult::Given(value))) => Ok((id, value)),
+        Ok((_id, CallResult::Refused { code, message })) => Err(AskFault::Refused {
             status: status_of(code),
             code,
             message,
         }),
-        Err(why) => Err(unanswered(why)),
+        Err(why) => Err(fault_of_call(why)),
     }
 }
 

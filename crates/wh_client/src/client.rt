@@ -2,17 +2,16 @@
 
 ghost use Rattle.std.specs.Prelude.{◌≡◌, [], IfErr, IfOk, Some, codes, map};
 ghost use Rattle.serde_json.specs.View.{view};
-ghost use Rattle.wh_responses.specs.Responses.{poll_seen};
-ghost use Rattle.wh_client.specs.Histories.{CanNotBeRead, CarriesNothing, CarriesUnknown, HandsOn};
-ghost use Rattle.wh_client.specs.Histories.{HasAllMembers, IsWhole, ReadsEvents};
+ghost use Rattle.wh_messages.specs.Responses.{poll_seen};
+ghost use Rattle.wh_client.specs.Histories.{CanNotBeRead, CarriesNothing, CarriesUnknown, HandsOn, HasAllMembers, IsWhole, ReadsEvents};
 ghost use Rattle.wh_client.specs.Pages.{ReadsNotOn};
-ghost use Rattle.wh_requests.specs.Requests.{poll_activity, poll_workflow};
+ghost use Rattle.wh_messages.specs.Requests.{poll_activity, poll_workflow};
 ghost use Rattle.wh_commands.specs.CarryingOver.{carried_in, carried_seen};
 ghost use Rattle.wh_client.specs.Polls.{IsActivityPoll, IsWorkflowPoll};
 ghost use Rattle.wh_client.specs.Refusals.{HasItsStatus, HasNoMeaning, IsFaultBy, of_page};
 
 use crate::asking::{AskFault, ask_poll};
-use crate::codes::Status;
+use crate::codes::StatusCode;
 use crate::connection::Connection;
 use crate::options::LiveOptions;
 use crate::pages::{append_pages, ask_first_page};
@@ -20,10 +19,12 @@ use serde_json::Value;
 use std::alloc::Global;
 use wh_commands::{CarriedOver, carried_over};
 use wh_events::{Event, RunKey, Text};
-use wh_heartbeat::ActivityCell;
 use wh_json::{ReadFault, read_members};
-use wh_requests::{poll_activity, poll_workflow};
-use wh_responses::{ActivityPoll, HistoryPage, WorkflowPoll, activity_poll, workflow_poll};
+use wh_messages::{
+    ActivityPoll, HistoryPage, WorkflowPoll, activity_poll, poll_activity, poll_workflow,
+    workflow_poll,
+};
+use wh_tasks::ActivityCell;
 
 /// The client of a server for one worker, with what all workers of a process share.
 #[derive(Drop)]
@@ -44,7 +45,7 @@ fn of_page(fault: AskFault) -> AskFault
 {
     match fault {
         AskFault::Refused { code, message, .. } => AskFault::Refused {
-            status: Status::Other,
+            status: StatusCode::Other,
             code,
             message,
         },

@@ -5,7 +5,7 @@ ghost use Rattle.wh_client.specs.Codes.{HasCode, poll_end, accepted_answer, refu
 
 /// The status of a refused call, among those that a worker distinguishes (gRPC, "Status codes").
 #[derive(Clone, Copy, PartialEq, Eq, Debug)]
-pub enum Status {
+pub enum StatusCode {
     /// 1: the call was canceled, as a bridge does when it shuts down.
     Cancelled,
     /// 3: the request is invalid for the server.
@@ -21,16 +21,16 @@ pub enum Status {
 }
 
 /// Returns the status of a code.
-pub fn status_of(code: i64) -> Status
+pub fn status_of(code: i64) -> StatusCode
     ensures { HasCode result code }
 {
     match code {
-        1 => Status::Cancelled,
-        3 => Status::InvalidArgument,
-        5 => Status::NotFound,
-        7 => Status::PermissionDenied,
-        16 => Status::Unauthenticated,
-        _ => Status::Other,
+        1 => StatusCode::Cancelled,
+        3 => StatusCode::InvalidArgument,
+        5 => StatusCode::NotFound,
+        7 => StatusCode::PermissionDenied,
+        16 => StatusCode::Unauthenticated,
+        _ => StatusCode::Other,
     }
 }
 
@@ -47,16 +47,16 @@ pub enum PollEnd {
 }
 
 /// Returns what follows after a poll that was refused with a status.
-pub fn poll_end(status: Status) -> PollEnd
+pub fn poll_end(status: StatusCode) -> PollEnd
     ensures { result ≡ poll_end status }
 {
     match status {
-        Status::Cancelled => PollEnd::Closed,
-        Status::InvalidArgument
-        | Status::NotFound
-        | Status::PermissionDenied
-        | Status::Unauthenticated => PollEnd::Never,
-        Status::Other => PollEnd::Later,
+        StatusCode::Cancelled => PollEnd::Closed,
+        StatusCode::InvalidArgument
+        | StatusCode::NotFound
+        | StatusCode::PermissionDenied
+        | StatusCode::Unauthenticated => PollEnd::Never,
+        StatusCode::Other => PollEnd::Later,
     }
 }
 
@@ -99,16 +99,18 @@ pub fn accepted_answer(is_discarded: bool) -> Receipt
 }
 
 /// Returns what became of an answer that was refused with a status.
-pub fn refused_answer(status: Status) -> Receipt
+pub fn refused_answer(status: StatusCode) -> Receipt
     ensures is { result ≡ refused_answer status }
     ensures unacknowledged { result ≢ Receipt.Acknowledged }
     ensures sent { result ≢ Receipt.Withheld }
 {
     match status {
-        Status::NotFound => Receipt::NotFound,
-        Status::InvalidArgument => Receipt::Invalid,
-        Status::Cancelled | Status::PermissionDenied | Status::Unauthenticated | Status::Other =>
-            Receipt::Lost,
+        StatusCode::NotFound => Receipt::NotFound,
+        StatusCode::InvalidArgument => Receipt::Invalid,
+        StatusCode::Cancelled
+        | StatusCode::PermissionDenied
+        | StatusCode::Unauthenticated
+        | StatusCode::Other => Receipt::Lost,
     }
 }
 

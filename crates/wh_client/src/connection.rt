@@ -2,11 +2,10 @@
 
 use serde_json::Value;
 use std::alloc::Global;
-use wh_events::Text;
-use wh_ghost_list::GhostList;
-use wh_heartbeat::{ActivityCell, ActivityInfo};
-use wh_responses::QueryPoll;
-use wh_rpc::{CallFault, Outcome};
+use wh_events::{GhostList, Text};
+use wh_messages::QueryPoll;
+use wh_rpc::{CallFault, CallResult};
+use wh_tasks::{ActivityCell, ActivityInfo};
 
 /// The connection of a live source: it makes calls to the server and reports. Many workers share
 /// it. Its calls wait for the server.
@@ -34,12 +33,12 @@ pub trait Connection {
     /// Sends a request, waits for its response and returns its id and outcome. `Closed` if no
     /// response will come, `Output` if the request could not be written, `OutOfMemory` if there was
     /// no memory for it.
-    fn call(&self, method: &str, params: Value) -> Result<(u64, Outcome), CallFault>
+    fn call(&self, method: &str, params: Value) -> Result<(u64, CallResult), CallFault>
         ensures given { IfOk result (λ response. OnGiven (gives method.now (view params)) response.1) }
         ensures failed { OnFailed (fails method.now (view params)) result };
 
     /// As `call`, but also `Closed` once the bridge shuts down, or polls are stopped.
-    fn poll(&self, method: &str, params: Value) -> Result<(u64, Outcome), CallFault>
+    fn poll(&self, method: &str, params: Value) -> Result<(u64, CallResult), CallFault>
         ensures given { IfOk result (λ response. OnGiven (gives method.now (view params)) response.1) }
         ensures failed { OnFailed (fails method.now (view params)) result };
 

@@ -3,7 +3,7 @@
 ghost use Rattle.std.specs.Prelude.{◌≡◌, true, IfErr, IfOk, codes};
 ghost use Rattle.wh_client.specs.Heartbeats.{IsFailedActivity, IsHeartbeat, WasCanceled};
 ghost use Rattle.wh_client.specs.Refusals.{HasItsStatus, IsFaultBy};
-ghost use Rattle.wh_requests.specs.Heartbeats.{activity_heartbeat};
+ghost use Rattle.wh_messages.specs.Heartbeats.{activity_heartbeat};
 
 use crate::asking::{AskFault, ask};
 use crate::client::Client;
@@ -11,9 +11,8 @@ use crate::connection::Connection;
 use crate::requests::Request;
 use wh_commands::WorkerNames;
 use wh_events::{OutOfMemory, Payload, Text};
-use wh_heartbeat::ActivityInfo;
-use wh_requests::{activity_canceled, activity_failed, activity_heartbeat};
-use wh_responses::is_cancel_requested;
+use wh_messages::{activity_canceled, activity_failed, activity_heartbeat, is_cancel_requested};
+use wh_tasks::ActivityInfo;
 
 /// Sends a heartbeat with details for the activity of a task, and returns whether the activity is
 /// to be canceled (Temporal documentation, "Activity Heartbeat"). The error says why that is not

@@ -14,8 +14,10 @@ mod requests;
 
 pub use asking::AskFault;
 pub use client::{Client, read_history};
-pub use codes::{PollEnd, Receipt, Status, accepted_answer, poll_end, refused_answer, status_of};
+pub use codes::{
+    PollEnd, Receipt, StatusCode, accepted_answer, poll_end, refused_answer, status_of,
+};
 pub use connection::Connection;
 pub use heartbeats::record_heartbeat;
-pub use options::{LiveOptions, Role};
+pub use options::{LiveOptions, TaskQueueKind};
 pub use requests::Request;

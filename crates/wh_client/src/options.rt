@@ -22,7 +22,7 @@ pub struct LiveOptions {
 
 /// Which tasks a worker polls for.
 #[derive(Clone, Copy, PartialEq, Eq, Debug)]
-pub enum Role {
+pub enum TaskQueueKind {
     /// Workflow tasks of the queue that all workers of the application poll.
     Normal,
     /// Workflow tasks of the sticky queue, whose runs this process has cached.
@@ -31,16 +31,16 @@ pub enum Role {
     Activities,
 }
 
-impl Role {
+impl TaskQueueKind {
     /// Returns whether it polls the sticky queue for workflow tasks, or `None` if it polls for
     /// none.
     pub fn polls_sticky(self) -> Option<bool>
         ensures { result ≡ polls_sticky self }
     {
         match self {
-            Role::Normal => Some(false),
-            Role::Sticky => Some(true),
-            Role::Activities => None,
+            TaskQueueKind::Normal => Some(false),
+            TaskQueueKind::Sticky => Some(true),
+            TaskQueueKind::Activities => None,
         }
     }
 }

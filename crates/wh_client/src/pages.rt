@@ -2,7 +2,7 @@
 
 ghost use Rattle.std.specs.Prelude.{◌≡◌, [], IfErr, IfOk, OnOk, map};
 ghost use Rattle.serde_json.specs.View.{view};
-ghost use Rattle.wh_responses.specs.Responses.{page_seen};
+ghost use Rattle.wh_messages.specs.Responses.{page_seen};
 ghost use Rattle.wh_client.specs.Pages.{BeginsNot, BeginsWith, IsPageFault, IsPaged};
 ghost use Rattle.wh_client.specs.Pages.{ReadsNotOn, ReadsOn};
 
@@ -11,8 +11,7 @@ use crate::connection::Connection;
 use serde_json::Value;
 use wh_commands::WorkerNames;
 use wh_events::{RunKey, Text};
-use wh_requests::history;
-use wh_responses::{HistoryPage, history_page};
+use wh_messages::{HistoryPage, history, history_page};
 
 /// The maximum number of pages of a history.
 const MOST_PAGES: u64 = 1_000_000;

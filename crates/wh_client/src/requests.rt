@@ -4,8 +4,8 @@ ghost use Rattle.std.specs.Prelude.{IfErr, IfOk, OnOk, codes};
 ghost use Rattle.serde_json.specs.View.{members_view, view};
 ghost use Rattle.wh_commands.specs.CarryingOver.{carried_seen};
 ghost use Rattle.wh_client.specs.Refusals.{HasItsStatus, IsFaultBy};
-ghost use Rattle.wh_requests.specs.Requests.{activity_completed, no_queries, query_failed};
-ghost use Rattle.wh_requests.specs.Requests.{workflow_completed, workflow_failed};
+ghost use Rattle.wh_messages.specs.Requests.{activity_completed, no_queries, query_failed};
+ghost use Rattle.wh_messages.specs.Requests.{workflow_completed, workflow_failed};
 ghost use Rattle.wh_client.specs.Requests.{GivesUpQueue, IsAnswered, IsRequest, IsTaken, KeepsQueue, WritesRequest};
 
 use crate::asking::{AskFault, ask};
@@ -14,11 +14,10 @@ use crate::connection::Connection;
 use serde_json::Value;
 use wh_commands::{CarriedOver, Members, RequestFault};
 use wh_events::{Event, OutOfMemory, Payload, Text};
-use wh_requests::{
-    FailedCause, NO_QUERIES, activity_completed, query_failed, shutdown, workflow_completed,
-    workflow_failed,
+use wh_messages::{
+    FailedCause, NO_QUERIES, activity_completed, is_discarded, query_failed, shutdown,
+    workflow_completed, workflow_failed,
 };
-use wh_responses::is_discarded;
 use wh_workflow::Command;
 
 /// A call to be made.
@@ -35,7 +34,7 @@ impl<L: Connection> Client<'_, L> {
     /// they were replayed from, and with the results of queries that came with the task. What is
     /// carried over is only used in a Continue-As-New. The error is that of the first command that
     /// can't be written; `OutOfMemory` can replace each of them.
-    pub fn completed(
+    pub fn completion_request(
         &self,
         token: &Text,
         commands: &[Command],
@@ -67,7 +66,7 @@ impl<L: Connection> Client<'_, L> {
 
     /// Writes the failure of the workflow task of a token, with a cause and a message.
     /// `OutOfMemory` if there was no memory for the request.
-    pub fn failed(
+    pub fn failure_request(
         &self,
         token: &Text,
         cause: FailedCause,

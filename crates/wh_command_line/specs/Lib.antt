@@ -6,6 +6,7 @@ pub mod Options
 pub mod Plans
 pub mod Queries
 pub mod Refusals
+pub mod Replays
 pub mod Sizes
 pub mod Tables
 pub mod Work

@@ -4,10 +4,11 @@ use Rattle.clap.specs.Words.{IsAmong, Kinds, Row, Text, fault_of, subcommand_of}
 use Rattle.clap.specs.declared.error.kind.ErrorKind.{ErrorKind}
 use Rattle.clap.specs.declared.error.kind.ErrorKind.TheVariants.{DisplayHelp, DisplayVersion, OutOfMemory}
 use Rattle.wh_command_line.specs.Explanations.{GivesExplanation, LacksExplanation}
-use Rattle.wh_command_line.specs.Given.{GivesFlag, GivesFolder, GivesFormat, GivesPaths, LacksText}
+use Rattle.wh_command_line.specs.Given.{GivesFlag, GivesFolder, GivesPaths, LacksText}
 use Rattle.wh_command_line.specs.Lines.{program}
 use Rattle.wh_command_line.specs.Options.{GivesFewSlots}
 use Rattle.wh_command_line.specs.Queries.{GivesQuery, LacksQuery}
+use Rattle.wh_command_line.specs.Replays.{GivesReplay}
 use Rattle.wh_command_line.specs.Sizes.{GivesAllWithin, GivesNumbers}
 use Rattle.wh_command_line.specs.Tables.{GivesCheck, GivesTrial, LacksCheck}
 use Rattle.wh_command_line.specs.Work.{GivesFewWorkSlots, GivesWork, LacksWork}
@@ -21,11 +22,8 @@ IsHelp _ = ⊥
 
 -- the plan is what the subcommand of a name asks for with its rows
 abbrev pub IsGiven : Text → List Row → Plan → Type 0
-IsGiven name rows (Replay dir more format require_files strict_values progress) = (name ≡ codes "replay")
-    × GivesPaths rows dir more.items × GivesFormat rows format
-    × GivesFlag (codes "require-files") rows require_files
-    × GivesFlag (codes "strict-values") rows strict_values
-    × GivesFlag (codes "progress") rows progress
+IsGiven name rows (Replay dir more options) =
+    (name ≡ codes "replay") × GivesPaths rows dir more.items × GivesReplay rows options
 IsGiven name rows (Explain file selection format) =
     (name ≡ codes "explain") × GivesExplanation rows (Explain file selection format)
 IsGiven name rows (View file selection format) =

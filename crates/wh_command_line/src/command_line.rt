@@ -21,6 +21,7 @@ ghost use Rattle.wh_command_line.specs.Work.{GivesFewWorkSlots, LacksWork};
 use crate::explain::{explain, explanation_given};
 use crate::options::{CACHE, CACHE_EVENTS, Helps, NumberOption, SLOTS, WORKERS};
 use crate::query::{query, query_given};
+use crate::replay_options::ReplayOptions;
 use crate::serve_options::ServeOptions;
 use crate::tables::{check, check_given, trial, trial_given};
 use crate::work::{WorkOptions, work};
@@ -44,14 +45,8 @@ pub enum Plan {
         dir: Text,
         /// The other paths, in their order.
         more: Vec<Text>,
-        /// The format of the report.
-        format: Format,
-        /// Whether it is a failure if there is no history.
-        require_files: bool,
-        /// Whether values are reported that differ from what is recorded, in files without a fault.
-        strict_values: bool,
-        /// Whether progress is reported also if the standard error is no terminal.
-        progress: bool,
+        /// The options.
+        options: ReplayOptions,
     },
     /// Explain the replay of the history in a file.
     Explain {
@@ -182,7 +177,7 @@ pub(crate) fn bad_line(text: Result<String, AllocError>) -> Refusal
 
 /// Returns the plan or the refusal for an error of clap: the help or the version that was asked
 /// for, or what clap refused.
-fn refused(alloc: Global, error: &Error) -> Result<Plan, Refusal>
+fn plan_or_refusal(alloc: Global, error: &Error) -> Result<Plan, Refusal>
     ensures help { IfOk result IsHelp }
     ensures asked { IfOk result (λ _. IsRequest (kind_of error.now)) }
     ensures slots { result ≢ Err Refusal.FewSlots }
@@ -578,10 +573,7 @@ fn replay_given(alloc: Global, given: &ArgMatches<'_>) -> Result<Plan, Refusal>
     Ok(Plan::Replay {
         dir,
         more,
-        format: format_given(given),
-        require_files: flag_given(given, "require-files"),
-        strict_values: flag_given(given, "strict-values"),
-        progress: flag_given(given, "progress"),
+        options: ReplayOptions::from_matches(given),
     })
 }
 
@@ -593,7 +585,7 @@ fn service_given(alloc: Global, given: &ArgMatches<'_>) -> Result<Plan, Refusal>
     ensures bad { IfErr result (IfBad (LacksService (rows_of (found_of given.now)))) }
 {
     let dir = text_given(alloc, given, "DIR")?;
-    let options = ServeOptions::given(alloc, given)?;
+    let options = ServeOptions::from_matches(alloc, given)?;
     let require_files = flag_given(given, "require-files");
     serve_plan(dir, options, require_files, flag_given(given, "progress"))
 }
@@ -605,11 +597,11 @@ fn work_given(alloc: Global, given: &ArgMatches<'_>) -> Result<Plan, Refusal>
     ensures few { result ≡ Err Refusal.FewSlots → GivesFewWorkSlots (rows_of (found_of given.now)) }
     ensures bad { IfErr result (IfBad (LacksWork (rows_of (found_of given.now)))) }
 {
-    work_plan(WorkOptions::given(alloc, given)?)
+    work_plan(WorkOptions::from_matches(alloc, given)?)
 }
 
 /// Returns the plan of a subcommand.
-fn asked(alloc: Global, name: &str, given: &ArgMatches<'_>) -> Result<Plan, Refusal>
+fn plan_of(alloc: Global, name: &str, given: &ArgMatches<'_>) -> Result<Plan, Refusal>
     ensures limits { IfOk result IsWithinLimits }
     ensures given { IfOk result (IsGiven name.now (rows_of (found_of given.now))) }
     ensures few { result ≡ Err Refusal.FewSlots → AsksFewSlots name.now (rows_of (found_of given.now)) }
@@ -655,10 +647,10 @@ pub fn parse<'a>(
     let command = command(alloc, name, &helps)?;
     let matches = match command.try_get_matches_from(words) {
         Ok(matches) => matches,
-        Err(error) => return refused(alloc, &error),
+        Err(error) => return plan_or_refusal(alloc, &error),
     };
     let Some((subcommand, given)) = matches.subcommand() else {
         return Err(no_command(alloc, name));
     };
-    asked(alloc, subcommand, given)
+    plan_of(alloc, subcommand, given)
 }

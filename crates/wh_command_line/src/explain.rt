@@ -104,7 +104,7 @@ enum Choice {
 }
 
 /// Returns which tasks the flag for all tasks and the numbers of the options select.
-fn selected(all: bool, around: Option<u64>, last: Option<u64>) -> Choice
+fn choice_of(all: bool, around: Option<u64>, last: Option<u64>) -> Choice
     requires around { IfSome around (λ n. (1 ≤ n) × (n < 2 ^ 63)) }
     requires last { IfSome last (λ n. n ≤ 67108864) }
     ensures { result ≡ selected all around last }
@@ -130,7 +130,7 @@ fn selection_given(alloc: Global, given: &ArgMatches<'_>) -> Result<Option<Selec
     let around = AROUND.number_if_given(alloc, given)?;
     let last = LAST.number_if_given(alloc, given)?;
     let all = flag_given(given, "all");
-    match selected(all, around, last) {
+    match choice_of(all, around, last) {
         Choice::Nothing => Ok(None),
         Choice::Tasks(selection) => Ok(Some(selection)),
         Choice::Twice => Err(bad_line(String::from_str(

@@ -44,7 +44,10 @@ impl ServeOptions {
     }
 
     /// Returns the options that a subcommand is given.
-    pub(crate) fn given(alloc: Global, given: &ArgMatches<'_>) -> Result<ServeOptions, Refusal>
+    pub(crate) fn from_matches(
+        alloc: Global,
+        given: &ArgMatches<'_>,
+    ) -> Result<ServeOptions, Refusal>
         ensures given { IfOk result (λ o.
             GivesNumbers (rows_of (found_of given.now)) o.workers o.cache o.cache_events o.slots) }
         ensures slots { result ≢ Err Refusal.FewSlots }

@@ -367,13 +367,16 @@ fn task_queue_given(alloc: Global, given: &ArgMatches<'_>) -> Result<Text, Refus
 
 impl WorkOptions {
     /// Returns the options that a subcommand is given.
-    pub(crate) fn given(alloc: Global, given: &ArgMatches<'_>) -> Result<WorkOptions, Refusal>
+    pub(crate) fn from_matches(
+        alloc: Global,
+        given: &ArgMatches<'_>,
+    ) -> Result<WorkOptions, Refusal>
         ensures given { IfOk result (GivesWork (rows_of (found_of given.now))) }
         ensures limits { IfOk result IsWithinWorkLimits }
         ensures slots { result ≢ Err Refusal.FewSlots }
         ensures bad { IfErr result (IfBad (LacksWork (rows_of (found_of given.now)))) }
     {
-        let sizes = ServeOptions::given(alloc, given)?;
+        let sizes = ServeOptions::from_matches(alloc, given)?;
         let activity_workers = activity_workers_given(alloc, given, sizes.workers)?;
         let limits = limits_given(alloc, given)?;
         let files = files_given(alloc, given)?;

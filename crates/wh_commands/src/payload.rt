@@ -11,7 +11,7 @@ use std::alloc::{AllocError, Global};
 use wh_events::Payload;
 
 /// Writes a payload with this encoding and content.
-fn encoded(alloc: Global, encoding: &[u8], content: &[u8]) -> Result<Value, AllocError>
+fn encode_payload(alloc: Global, encoding: &[u8], content: &[u8]) -> Result<Value, AllocError>
     ensures { IfOk result (λ value. view value ≡ encoded encoding.now content.now) }
 {
     let encoding = STANDARD.encode(alloc, encoding)?;
@@ -25,13 +25,13 @@ pub(crate) fn payloads_value(alloc: Global, payloads: &[Payload]) -> Result<Valu
 {
     let mut written = Vec::new(alloc);
     for payload in payloads {
-        written.push(encoded(alloc, payload.encoding.get(), payload.content.get())?)?;
+        written.push(encode_payload(alloc, payload.encoding.get(), payload.content.get())?)?;
     }
     json!(in alloc; {"payloads": written})
 }
 
 /// Returns the compact text of a JSON value.
-fn compact(alloc: Global, value: &Value) -> Result<String, AllocError>
+fn compact_json(alloc: Global, value: &Value) -> Result<String, AllocError>
     requires { has_float (view value.now) ≡ false }
     ensures { IfOk result (λ text. string_bytes text ≡ compact_text (view value.now)) }
 {
@@ -42,7 +42,7 @@ fn compact(alloc: Global, value: &Value) -> Result<String, AllocError>
 fn encoded_json(alloc: Global, text: &str) -> Result<Value, AllocError>
     ensures { IfOk result (λ payload. view payload ≡ encoded (codes "json/plain") text.now) }
 {
-    encoded(alloc, "json/plain".as_bytes(), text.as_bytes())
+    encode_payload(alloc, "json/plain".as_bytes(), text.as_bytes())
 }
 
 /// Writes a JSON value as a payload.
@@ -50,7 +50,7 @@ fn json_payload(alloc: Global, value: &Value) -> Result<Value, AllocError>
     requires { has_float (view value.now) ≡ false }
     ensures { IfOk result (λ payload. view payload ≡ json_payload (view value.now)) }
 {
-    let text = compact(alloc, value)?;
+    let text = compact_json(alloc, value)?;
     encoded_json(alloc, text.as_str())
 }
 

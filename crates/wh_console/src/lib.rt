@@ -1,13 +1,19 @@
 //! The console of a program: what it writes on its standard output, and what it reports on its
-//! standard error under the name by which it was called.
+//! standard error under the name by which it was called. And the files, the folders and the standard
+//! input that it reads, and the files that it replaces.
 #![tactic(auto)]
 
 mod console;
 mod error_printer;
+mod files;
 mod format;
 mod outlet;
 
 pub use console::{Console, Message};
 pub use error_printer::ErrorPrinter;
+pub use files::{
+    FolderFault, Input, InputFault, Listing, Origin, Reason, folder_inputs, input_at, inputs_at,
+    read_file, read_input, replace_file,
+};
 pub use format::Format;
 pub use outlet::Outlet;

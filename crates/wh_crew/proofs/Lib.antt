@@ -1,4 +1,5 @@
 pub mod Polling
 pub mod Setups
+mod Spares
 pub mod Served
 mod Sending

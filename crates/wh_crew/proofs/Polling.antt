@@ -4,12 +4,12 @@ use Rattle.std.proofs.lemmas.Bool.Decides.{nat_tests}
 use Rattle.std.proofs.lemmas.List.Elements.{Contains-append_left, Contains-append_right}
 use Rattle.std.specs.List.{Contains}
 use Rattle.std.specs.Prelude.{nat_lt}
-use Rattle.wh_client.specs.declared.options.Role.{Role}
-use Rattle.wh_client.specs.declared.options.Role.TheVariants.{Normal, Sticky, Activities}
+use Rattle.wh_client.specs.declared.options.TaskQueueKind.{TaskQueueKind}
+use Rattle.wh_client.specs.declared.options.TaskQueueKind.TheVariants.{Normal, Sticky, Activities}
 use Rattle.wh_crew.specs.Crews.{CrewsPollAll, normal_workers, role_at, roles_of}
 
 -- a list of one has it
-alone : (role : Role) → Contains (role ∷ []) role
+alone : (role : TaskQueueKind) → Contains (role ∷ []) role
 alone role = (0, omega arith, refl)
 
 by_test : (count place : ℕ) (b : Bool) → nat_lt place count ≡ b → place < suc count → (place < count) ⊎ (place ≡ count)
@@ -46,7 +46,7 @@ fewer_normal : (workers : ℕ) → 2 ≤ workers → max (workers / 5) 1 < worke
 fewer_normal workers h = omega (arith, h)
 
 -- a role that is at a place is polled for
-at_place : (normal workers count place : ℕ) (role : Role) → place < count → role_at normal workers place ≡ role → Contains (roles_of normal workers count) role
+at_place : (normal workers count place : ℕ) (role : TaskQueueKind) → place < count → role_at normal workers place ≡ role → Contains (roles_of normal workers count) role
 at_place normal workers count place role within is =
     subst (λ r. Contains (roles_of normal workers count) r) is (role_is_there normal workers count place within)
 

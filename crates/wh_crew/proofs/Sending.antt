@@ -19,14 +19,14 @@ use Rattle.std.specs.contracts.collections.BTreeMap as BTreeMap
 use Rattle.std.specs.contracts.string.String as String
 use Rattle.serde_json.specs.contracts.value.Value as Value
 use Rattle.wh_client.proofs.options.LiveOptions.TheSendSync as liveOptions
-use Rattle.wh_client.proofs.options.Role.TheSendSync as role
+use Rattle.wh_client.proofs.options.TaskQueueKind.TheSendSync as role
 use Rattle.wh_events.proofs.event.Event.TheSendSync as event
 use Rattle.wh_events.proofs.key.RunKey.TheSendSync as runKey
 use Rattle.wh_events.proofs.lists.Text.TheSendSync as text
-use Rattle.wh_ghost_list.proofs.GhostList.TheSendSync as ghostList
-use Rattle.wh_heartbeat.proofs.cell.ActivityCell.TheSendSync as activityCell
+use Rattle.wh_events.proofs.ghost_list.GhostList.TheSendSync as ghostList
+use Rattle.wh_tasks.proofs.cell.ActivityCell.TheSendSync as activityCell
 use Rattle.wh_live.proofs.journals.Journal.TheSendSync as journal
-use Rattle.wh_companion.below.wh_slots.proofs.TaskName.TheSendSync as taskName
+use Rattle.wh_host.below.wh_slots.proofs.TaskName.TheSendSync as taskName
 use Rattle.wh_live.specs.contracts.live_source.LiveSource.{the_row}
 use Rattle.wh_crew.specs.contracts.bridge_connection.BridgeConnection as BridgeConnection
 

@@ -4,7 +4,7 @@ use Rattle.std.specs.Prelude.{sum_by}
 use Rattle.std.specs.List.{AllZip}
 use Rattle.std.proofs.lemmas.List.{append-nil}
 use Rattle.std.proofs.lemmas.List.Sums.{sum_by-cons}
-use Rattle.wh_client.specs.declared.options.Role.{Role}
+use Rattle.wh_client.specs.declared.options.TaskQueueKind.{TaskQueueKind}
 use Rattle.wh_client.specs.declared.options.LiveOptions.{LiveOptions}
 use Rattle.wh_host.specs.declared.config.Config.{Config}
 use Rattle.wh_ledger.specs.Shares.{no_shares}
@@ -26,7 +26,7 @@ comes_from_itself : (s : LiveView) → ComesFrom s s
 comes_from_itself s = record { role = refl; names = refl; more = []; answers = sym (append-nil s.answers); failures = omega arith }
 
 -- fresh sources were sent no answer
-none_sent : (names : WorkerNames) (roles : List Role) → sum_by (λ s. length s.answers) (map (λ role. fresh role names) roles) ≡ 0
+none_sent : (names : WorkerNames) (roles : List TaskQueueKind) → sum_by (λ s. length s.answers) (map (λ role. fresh role names) roles) ≡ 0
 none_sent names [] = refl
 none_sent names (role ∷ roles) = none_sent names roles
 

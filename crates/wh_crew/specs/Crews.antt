@@ -1,8 +1,8 @@
 -- What the workers of a host poll.
 use Rattle.std.specs.List.{Contains}
 use Rattle.std.specs.Prelude.{◌≡◌, ◌<◌, ◌≤◌, ℕ, zero, suc, ◌/◌, max, Bool, true, nat_lt, nat_le, if◌then◌else◌, List, [], ◌∷◌, ◌++◌, map}
-use Rattle.wh_client.specs.declared.options.Role.{Role}
-use Rattle.wh_client.specs.declared.options.Role.TheVariants.{Normal, Sticky, Activities}
+use Rattle.wh_client.specs.declared.options.TaskQueueKind.{TaskQueueKind}
+use Rattle.wh_client.specs.declared.options.TaskQueueKind.TheVariants.{Normal, Sticky, Activities}
 use Rattle.wh_live.specs.Deliveries.{LiveView, fresh}
 use Rattle.wh_commands.specs.declared.names.WorkerNames.{WorkerNames}
 
@@ -11,12 +11,12 @@ abbrev pub normal_workers : ℕ → Bool → ℕ
 normal_workers workers has_cache = if has_cache then max (workers / 5) 1 else workers
 
 -- workflow workers come before those of activities, and among them those of the queue of all workers come first
-abbrev pub role_at : ℕ → ℕ → ℕ → Role
+abbrev pub role_at : ℕ → ℕ → ℕ → TaskQueueKind
 role_at normal workers place =
     if nat_le workers place then Activities else (if nat_lt place normal then Normal else Sticky)
 
 -- the roles of this many workers, in the order of their places
-abbrev pub roles_of : ℕ → ℕ → ℕ → List Role
+abbrev pub roles_of : ℕ → ℕ → ℕ → List TaskQueueKind
 roles_of normal workers zero = []
 roles_of normal workers (suc count) = roles_of normal workers count ++ role_at normal workers count ∷ []
 

@@ -9,9 +9,9 @@ use Rattle.serde_json.specs.View.{members_view}
 use Rattle.serde_json.specs.declared.value.Value.{Value}
 use Rattle.wh_events.specs.declared.event.Event.{Event}
 use Rattle.wh_events.specs.declared.memory.OutOfMemory.{OutOfMemory}
-use Rattle.wh_queryable.specs.Definitions.{Definitions}
-use Rattle.wh_queryable.specs.Queries.{Queries}
-use Rattle.wh_task_queries.specs.Results.{results_beside}
+use Rattle.wh_workflow.specs.Definitions.{Definitions}
+use Rattle.wh_workflow.specs.Queries.{Queries}
+use Rattle.wh_live_queries.specs.Results.{results_beside}
 use Rattle.wh_workflow.specs.Law.{Program}
 
 -- a map of values by their names

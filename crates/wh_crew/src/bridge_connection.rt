@@ -6,12 +6,11 @@ use std::sync::Wait;
 use std::thread;
 use std::time::{Clock, Duration};
 use wh_client::Connection;
-use wh_events::Text;
-use wh_ghost_list::GhostList;
-use wh_heartbeat::{ActivityCell, ActivityInfo};
-use wh_query_desk::QueryQueue;
-use wh_responses::QueryPoll;
-use wh_rpc::{CallFault, Caller, Outcome};
+use wh_events::{GhostList, Text};
+use wh_live_queries::QueryQueue;
+use wh_messages::QueryPoll;
+use wh_rpc::{CallFault, CallResult, Caller};
+use wh_tasks::{ActivityCell, ActivityInfo};
 use wh_tester::Shown;
 
 /// A connection over the calls of a bridge, which reports and logs on standard error. It holds the
@@ -43,11 +42,11 @@ impl<R: Wait + Clock + Eprint, C: Caller> Connection for BridgeConnection<'_, R,
         self.calls.allocator()
     }
 
-    fn call(&self, method: &str, params: Value) -> Result<(u64, Outcome), CallFault> {
+    fn call(&self, method: &str, params: Value) -> Result<(u64, CallResult), CallFault> {
         self.calls.call(self.rt, method, params)
     }
 
-    fn poll(&self, method: &str, params: Value) -> Result<(u64, Outcome), CallFault> {
+    fn poll(&self, method: &str, params: Value) -> Result<(u64, CallResult), CallFault> {
         self.calls.poll(self.rt, method, params)
     }
 

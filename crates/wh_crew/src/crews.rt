@@ -1,16 +1,16 @@
 //! The workers of a host.
 
-ghost use Rattle.std.specs.Prelude.{◌≡◌, ◌≤◌, ◌<◌, true, IfOk, Some, is_some, map, replicate, vec_len};
+ghost use Rattle.std.specs.Prelude.{◌≡◌, ◌≤◌, ◌<◌, true, IfOk, Some, is_some, length, map, nat_lt, replicate, vec_len};
 ghost use Rattle.wh_crew.specs.Counts.{tallies_of};
 ghost use Rattle.wh_crew.specs.Crews.{normal_workers, role_at, sources_of};
 
 use std::alloc::Global;
 use std::sync::Arc;
-use wh_client::{Connection, LiveOptions, Role};
+use wh_client::{Connection, LiveOptions, TaskQueueKind};
 use wh_events::OutOfMemory;
-use wh_heartbeat::ActivityCell;
 use wh_live::{LiveSource, QueryHandler, Tally};
 use wh_poll::{WorkerEnd, WorkerSetup};
+use wh_tasks::ActivityCell;
 
 /// Returns how many of the workflow workers poll the queue that all workers poll: one in five and
 /// at least one, or all of them if runs are not cached. If runs are cached, two workers or more
@@ -29,20 +29,22 @@ pub(crate) fn normal_workers(workers: usize, has_cache: bool) -> usize
 
 /// Returns the role of the worker at a place: first come those of the queue that all poll, then
 /// those of the sticky queue, and then those of activities.
-fn role_at(normal: usize, workers: usize, place: usize) -> Role
+fn role_at(normal: usize, workers: usize, place: usize) -> TaskQueueKind
     ensures { result ≡ role_at normal workers place }
 {
     if workers <= place {
-        Role::Activities
+        TaskQueueKind::Activities
     } else if place < normal {
-        Role::Normal
+        TaskQueueKind::Normal
     } else {
-        Role::Sticky
+        TaskQueueKind::Sticky
     }
 }
 
 /// Returns the cell of a place, if it has one.
-fn cell_at(cells: &[Arc<ActivityCell>], place: usize) -> Option<&ActivityCell> {
+fn cell_at(cells: &[Arc<ActivityCell>], place: usize) -> Option<&ActivityCell>
+    ensures { is_some result ≡ nat_lt place (length cells.now) }
+{
     match cells.get(place) {
         Some(cell) => Some(&**cell),
         None => None,
@@ -85,7 +87,7 @@ pub(crate) fn setups_of<'a, L: Connection, Q: QueryHandler, A: Drop, O: Drop>(
 }
 
 /// Returns what all sources have counted together.
-pub(crate) fn gathered<L: Connection, Q: QueryHandler, A, O>(
+pub(crate) fn total_tally<L: Connection, Q: QueryHandler, A, O>(
     left: &[WorkerEnd<LiveSource<'_, L, Q>, A, O>],
 ) -> Tally
     ensures { result ≡ tallies_of (map (λ worker. worker.source.tally) left.now) }

@@ -8,12 +8,12 @@ use crate::timer::milliseconds;
 use std::alloc::Global;
 use std::sync::{Arc, Wait};
 use std::time::Clock;
-use wh_client::{AskFault, Connection, Status, record_heartbeat};
+use wh_client::{AskFault, Connection, StatusCode, record_heartbeat};
 use wh_commands::WorkerNames;
 use wh_events::{Items, OutOfMemory, Payload, Text};
-use wh_heartbeat::{ActivityCell, ActivityInfo, Heartbeat, HeartbeatResponse, HeartbeatStep};
-use wh_query_desk::QueryQueue;
+use wh_live_queries::QueryQueue;
 use wh_rpc::Caller;
+use wh_tasks::{ActivityCell, ActivityInfo, Heartbeat, HeartbeatResponse, HeartbeatStep};
 
 /// Returns what the result of a heartbeat's call means for the activity.
 fn response_of(heard: Result<bool, AskFault>) -> Result<HeartbeatResponse, OutOfMemory>
@@ -24,7 +24,7 @@ fn response_of(heard: Result<bool, AskFault>) -> Result<HeartbeatResponse, OutOf
         Ok(false) => Ok(HeartbeatResponse::GoOn),
         Err(
             AskFault::Refused {
-                status: Status::NotFound,
+                status: StatusCode::NotFound,
                 ..
             },
         ) => Ok(HeartbeatResponse::Gone),
@@ -36,7 +36,7 @@ fn response_of(heard: Result<bool, AskFault>) -> Result<HeartbeatResponse, OutOf
 
 /// Returns what the cell notes of a heartbeat with this response: without memory for its call,
 /// nothing was heard.
-fn noted(response: &Result<HeartbeatResponse, OutOfMemory>) -> HeartbeatResponse
+fn heard_response(response: &Result<HeartbeatResponse, OutOfMemory>) -> HeartbeatResponse
     ensures { result ≡ noted response.now }
 {
     match response {
@@ -64,7 +64,7 @@ pub(crate) fn beat<R: Wait, L: Connection>(
 ) -> Result<HeartbeatResponse, OutOfMemory> {
     let heard = record_heartbeat(connection, names, token, details.get());
     let response = response_of(heard);
-    cell.hear(rt, token, details, noted(&response));
+    cell.hear(rt, token, details, heard_response(&response));
     response
 }
 

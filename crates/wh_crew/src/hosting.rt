@@ -1,9 +1,9 @@
-//! Runs a host with a desk that answers queries, and a timer of heartbeats, beside its workers.
+//! Runs a host with desks that answer queries, and a timer of heartbeats, beside its workers.
 
-ghost use Rattle.std.specs.Prelude.{◌≡◌, ◌≤◌, ◌+◌, ◌↔◌, IfOk, Err, map, vec_capacity, vec_len};
+ghost use Rattle.std.specs.Prelude.{◌≡◌, ◌≤◌, ◌+◌, ◌↔◌, IfOk, Err, vec_len};
 ghost use denote.Param.Send.{IsSend};
 ghost use Rattle.wh_host.specs.Machine.{IsConfig};
-ghost use Rattle.wh_poll.specs.Ends.{AreEnds, IsHostEnd};
+ghost use Rattle.wh_poll.specs.Ends.{IsHostEnd};
 
 use crate::timer::send_held;
 use std::alloc::Global;
@@ -14,24 +14,22 @@ use std::thread;
 use std::thread::Threads;
 use std::time::Clock;
 use wh_client::{Client, Connection};
-use wh_companion::{Companion, EndSignal, put_spare, take_spare, with_spare};
-use wh_events::OutOfMemory;
-use wh_heartbeat::ActivityCell;
-use wh_host::{Config, Host, OpenFault};
-use wh_ledger::Seat;
-use wh_poll::{
-    ActivityHandler, HostEnd, Observer, OpenGate, TaskSource, WorkerEnd, WorkerSetup, close_host,
-    run_beside,
+use wh_host::{
+    Companion, Config, EndSignal, Host, OpenFault, accompany, put_spare, take_spare, with_spare,
 };
-use wh_query_desk::{QueryQueue, answer_queries};
-use wh_queryable::Queryable;
+use wh_ledger::Seat;
+use wh_live_queries::{QueryQueue, answer_queries};
+use wh_poll::{
+    ActivityHandler, HostEnd, Observer, TaskSource, WorkerSetup, close_host, run_beside,
+};
+use wh_tasks::ActivityCell;
+use wh_workflow::Queryable;
 
-/// The seats of workers that have ended, and what each worker leaves.
-type Ended<T, C, F, S, A, O> = (Vec<Seat<T, C, F>>, Vec<WorkerEnd<S, A, O>>);
-
-/// The same as `run_host_beside` of `wh_poll`, with a desk in one more thread, which answers the
-/// queries of a queue over the calls of a client, and a timer in another one, which sends what the
-/// heartbeats of the workers hold in their cells over the same calls. Neither changes the host.
+/// The same as `run_host` of `wh_poll`, with what runs beside the workers, each in a thread of its
+/// own: the companion, if there is one; two desks, which answer the queries of a queue over the
+/// calls of a client; and a timer, which sends what the heartbeats of the workers hold in their
+/// cells over the same calls. None changes the host. It is opened with a seat for the companion,
+/// which counts nothing, unless the workers take all seats that a host may have.
 pub(crate) fn run_host_answering<
     W: Queryable + Send,
     R: Threads + Wait + Clock + Sync,
@@ -75,8 +73,8 @@ pub(crate) fn run_host_answering<
     Ok(HostEnd { config, ..end })
 }
 
-/// Opens a host of these sizes over these ledgers, runs its workers, with the desk and the
-/// companion beside them, and closes it. There may be one seat more than workers.
+/// Opens a host of these sizes over these ledgers, runs its workers, with all that runs beside them,
+/// and closes it. There may be one seat more than workers.
 fn run_with<
     W: Queryable + Send,
     R: Threads + Wait + Clock + Sync,
@@ -112,9 +110,13 @@ fn run_with<
 {
     let (host, mut seats) = Host::<W, T, C, F>::open(alloc, config, taken, completed, failed)?;
     let spare = take_spare(&mut seats, setups.len());
-    let (spare, ended) = run_answering(
-        rt, alloc, &host, seats, spare, setups, companion, client, queries, cells,
-    );
+    let lent = &host;
+    let signal = &EndSignal::new();
+    let beside = move || -> Option<Seat<T, C, F>>
+        requires { IsSend W.row × IsSend W.State.row }
+        ensures { result ≡ spare }
+    { attend(rt, lent, spare, companion, client, queries, cells, signal) };
+    let (spare, ended) = run_beside(rt, alloc, lent, seats, setups, signal, beside);
     let (mut seats, workers) = ended?;
     put_spare(&mut seats, spare);
     let totals = close_host(host, seats);
@@ -125,8 +127,25 @@ fn run_with<
     })
 }
 
-/// Answers the queries of the queue and sends what is held in the cells, in two threads, until the
-/// workers have ended. If there is no thread for the cells, nothing is sent from them.
+/// Answers the queries of the queue in two threads, until the queue has ended, so that a history
+/// that can't be fetched holds up one of them. If there is no second thread, one answers them all.
+fn run_query_desks<
+    R: Threads + Wait + Clock + Sync,
+    W: Queryable + Send,
+    T: Ledger + Send,
+    C: Ledger + Send,
+    F: Ledger + Send,
+    L: Connection + Sync,
+>(rt: &R, host: &Host<W, T, C, F>, client: &Client<'_, L>, queries: &QueryQueue) {
+    let ((), ()) = thread::join(
+        rt,
+        move || answer_queries(rt, host, client, queries),
+        move || answer_queries(rt, host, client, queries),
+    );
+}
+
+/// Answers the queries of the queue and sends what is held in the cells, in threads of their own,
+/// until the workers have ended. If there is no thread for the queries, they are answered then.
 fn run_desks<
     R: Threads + Wait + Clock + Sync,
     W: Queryable + Send,
@@ -142,77 +161,54 @@ fn run_desks<
     cells: &[Arc<ActivityCell>],
     signal: &EndSignal,
 ) {
+    queries.begin(rt);
     let ((), ()) = thread::join(
         rt,
-        move || send_held(rt, client, cells, signal),
-        move || answer_queries(rt, host, client, queries),
+        move ||
+            requires { IsSend W.row × IsSend W.State.row }
+        { run_query_desks(rt, host, client, queries) },
+        move || {
+            send_held(rt, client, cells, signal);
+            queries.end(rt);
+        },
     );
 }
 
-/// Runs the workers of an open host, with the companion beside them, if there is one, and the desks
-/// for their queries and their heartbeats until they have ended. The companion's seat is returned
+/// Runs all that runs beside the workers, until they have ended. The companion's seat is returned
 /// unchanged.
-fn run_answering<
+fn attend<
     R: Threads + Wait + Clock + Sync,
     W: Queryable + Send,
     T: Ledger + Send,
     C: Ledger + Send,
     F: Ledger + Send,
-    S: TaskSource + Send + Drop,
-    A: ActivityHandler + Send + Drop,
-    O: Observer + Send + Drop,
     P: Companion + Sync,
     L: Connection + Sync,
 >(
     rt: &R,
-    alloc: Global,
     host: &Host<W, T, C, F>,
-    seats: Vec<Seat<T, C, F>>,
     spare: Option<Seat<T, C, F>>,
-    setups: Vec<WorkerSetup<S, A, O>>,
     companion: Option<&P>,
     client: &Client<'_, L>,
     queries: &QueryQueue,
     cells: &[Arc<ActivityCell>],
-) -> (
-    Option<Seat<T, C, F>>,
-    Result<Ended<T, C, F, S, A, O>, OutOfMemory>,
-)
-    requires seats { vec_len seats ≡ vec_len setups }
-    ensures spare { result.0 ≡ spare }
-    ensures seats { IfOk result.1 (λ ended. vec_len ended.0 ≡ vec_len setups) }
-    ensures room { IfOk result.1 (λ ended. vec_capacity ended.0 ≡ vec_capacity seats) }
-    ensures count { IfOk result.1 (λ ended. vec_len ended.1 ≡ vec_len setups) }
-    ensures counted { IfOk result.1 (λ ended. ended.0.items ≡ map (λ end. end.counted) ended.1.items) }
-    ensures ends { IfOk result.1 (λ ended. AreEnds W.program S.fetches S.delivers S.answers S.failures S.comes_from
-        A.may O.hears seats.items setups.items ended.1.items) }
+    signal: &EndSignal,
+) -> Option<Seat<T, C, F>>
+    ensures { result ≡ spare }
 {
-    let signal = &EndSignal::new();
-    signal.begin(rt);
-    let ((), ended) = thread::join(
+    let Some(companion) = companion else {
+        run_desks(rt, host, client, queries, cells, signal);
+        return spare;
+    };
+    let ((), spare) = thread::join(
         rt,
         move ||
             requires { IsSend W.row × IsSend W.State.row }
         { run_desks(rt, host, client, queries, cells, signal) },
-        move || -> (
-            Option<Seat<T, C, F>>,
-            Result<Ended<T, C, F, S, A, O>, OutOfMemory>,
-        )
-            requires { IsSend W.row × IsSend W.State.row × (vec_len seats ≡ vec_len setups) }
-            ensures spare { result.0 ≡ spare }
-            ensures seats { IfOk result.1 (λ ended. vec_len ended.0 ≡ vec_len setups) }
-            ensures room { IfOk result.1 (λ ended. vec_capacity ended.0 ≡ vec_capacity seats) }
-            ensures count { IfOk result.1 (λ ended. vec_len ended.1 ≡ vec_len setups) }
-            ensures counted { IfOk result.1 (λ ended. ended.0.items ≡ map (λ end. end.counted) ended.1.items) }
-            ensures ends { IfOk result.1 (λ ended. AreEnds W.program S.fetches S.delivers S.answers S.failures
-                S.comes_from A.may O.hears seats.items setups.items ended.1.items) }
-        {
-            queries.begin(rt);
-            let ended = run_beside(rt, alloc, host, seats, spare, setups, &OpenGate, companion);
-            queries.end(rt);
-            signal.end(rt);
-            ended
-        },
+        move || -> Option<Seat<T, C, F>>
+            requires { IsSend W.row × IsSend W.State.row }
+            ensures { result ≡ spare }
+        { accompany(rt, host, spare, signal, companion) },
     );
-    ended
+    spare
 }

@@ -6,7 +6,7 @@ ghost use Rattle.wh_crew.specs.TaskQueries.{AnswersByReplay};
 ghost use Rattle.wh_host.specs.Machine.{IsConfig};
 
 use crate::bridge_connection::BridgeConnection;
-use crate::crews::{gathered, setups_of};
+use crate::crews::{setups_of, total_tally};
 use crate::hosting::run_host_answering;
 use crate::task_queries::ByClosure;
 use std::alloc::Global;
@@ -16,17 +16,15 @@ use std::thread::Threads;
 use std::time::Clock;
 use wh_client::{Client, LiveOptions};
 use wh_commands::Members;
-use wh_companion::Companion;
 use wh_events::Event;
-use wh_heartbeat::ActivityCell;
-use wh_host::{Config, OpenFault, Totals};
+use wh_host::{Companion, Config, OpenFault, Totals};
 use wh_live::{LiveSource, QueryHandler, Tally};
+use wh_live_queries::{QueryQueue, results_beside};
 use wh_poll::{ActivityHandler, Observer};
-use wh_query_desk::QueryQueue;
-use wh_queryable::Queryable;
 use wh_rpc::{Caller, read_lines};
-use wh_task_queries::results_beside;
+use wh_tasks::ActivityCell;
 use wh_tester::Shown;
+use wh_workflow::Queryable;
 
 /// What a host of a server's tasks has counted when it has ended.
 #[derive(Clone, Copy, Debug)]
@@ -134,7 +132,7 @@ fn serve_with<
     let _ = client.give_up_queue();
     Ok(LiveEnd {
         totals: end.totals,
-        tally: gathered(end.workers.as_slice()),
+        tally: total_tally(end.workers.as_slice()),
     })
 }
 

@@ -4,8 +4,8 @@ use crate::heartbeats::beat;
 use std::sync::{Arc, Wait};
 use std::time::{Clock, Duration};
 use wh_client::{Client, Connection};
-use wh_companion::EndSignal;
-use wh_heartbeat::ActivityCell;
+use wh_host::EndSignal;
+use wh_tasks::ActivityCell;
 
 /// How long it is from one look of the timer at what is held to the next, in milliseconds.
 const LOOK: u64 = 100;

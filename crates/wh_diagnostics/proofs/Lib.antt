@@ -1,3 +1,12 @@
+pub mod CarriedOut
 pub mod Lines
 pub mod Printed
 pub mod ReadFailures
+pub mod InOrder
+pub mod Unlisted
+pub mod Unread
+pub mod Batched
+pub mod Counted
+pub mod Telling
+pub mod Answering
+pub mod Reporting

@@ -5,8 +5,8 @@ use Rattle.std.specs.Result.{IsErrAnd}
 use Rattle.wh_diagnostics.specs.Failures.{input_failure, IsReadFailure, IsReportFailure}
 use Rattle.wh_diagnostics.specs.declared.failures.Failure.{Failure}
 use Rattle.wh_diagnostics.specs.declared.failures.Failure.TheVariants as failures
-use Rattle.wh_files.specs.declared.InputFault.{InputFault}
-use Rattle.wh_files.specs.declared.InputFault.TheVariants.{Unreadable, OutOfMemory}
+use Rattle.wh_console.specs.declared.files.InputFault.{InputFault}
+use Rattle.wh_console.specs.declared.files.InputFault.TheVariants.{Unreadable, OutOfMemory}
 
 -- the failure of an input is one of reading
 pub input_fails_to_read : (fault : InputFault) → IsReadFailure (input_failure fault)
@@ -28,7 +28,7 @@ unread_unreported (failures.BadLine text) why = why
 unread_unreported failures.BadArguments why = why
 unread_unreported failures.FewSlots why = why
 unread_unreported failures.BadInput why = why
-unread_unreported (failures.NotJson fault) why = why
+unread_unreported (failures.NotJson file detail) why = why
 unread_unreported (failures.NotViewed file fault) why = why
 unread_unreported (failures.NotText file) why = why
 unread_unreported (failures.BadPolicies file fault) why = why

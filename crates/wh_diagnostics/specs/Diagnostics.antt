@@ -2,37 +2,26 @@
 use Rattle.std.specs.Prelude.{ℕ, List, [], ◌∷◌, ◌++◌, codes, Option, Some, None, String, string_bytes}
 use Rattle.std.specs.List.{flat_map}
 use Rattle.std.specs.declared.alloc.Global.{Global}
-use Rattle.wh_files.specs.Reasons.{reason_words}
-use Rattle.wh_files.specs.declared.Reason.{Reason}
+use Rattle.wh_console.specs.Reasons.{reason_words}
+use Rattle.wh_console.specs.declared.files.Reason.{Reason}
 use Rattle.wh_json.specs.declared.fault.ReadFault.{ReadFault}
 use Rattle.wh_tester.specs.Report.{fault_text, shown}
 use Rattle.wh_explain.specs.declared.explanation.Pairing.{Pairing}
 use Rattle.wh_phrases.specs.Sides.{sides_text}
-use Rattle.wh_report.specs.Reports.{fault_of}
 use Rattle.wh_report.specs.declared.records.Record.{Record}
 use Rattle.wh_diagnostics.specs.declared.diagnostics.Diagnostic.{Diagnostic}
 use Rattle.wh_diagnostics.specs.declared.diagnostics.Diagnostic.TheVariants.{NoFiles, BadNames, BadJson, BadFiles, Queried, Failed}
 use Rattle.wh_diagnostics.specs.declared.failures.Failure.{Failure}
 use Rattle.wh_diagnostics.specs.declared.failures.Failure.TheVariants.{BadLine, BadArguments, FewSlots, BadInput, Unreadable, NotJson, NotViewed, NotText, BadPolicies, Output, OutOfMemory}
-use Rattle.wh_file_faults.specs.declared.file_faults.FileFault.{FileFault}
 use Rattle.wh_diagnostics.specs.Policies.{bad_policies_line}
-use Rattle.wh_fault_details.specs.Texts.{detail_text}
-use Rattle.wh_fault_details.specs.declared.detail.FaultDetail.{FaultDetail}
-use Rattle.wh_file_faults.specs.Texts.{file_fault_text}
-use Rattle.wh_values.specs.Texts.{value_text}
-use Rattle.wh_values.specs.declared.comparing.OtherValue.{OtherValue}
+use Rattle.wh_file_faults.specs.DetailTexts.{detail_text}
+use Rattle.wh_file_faults.specs.declared.detail.FaultDetail.{FaultDetail}
+use Rattle.wh_phrases.specs.Texts.{value_text}
+use Rattle.wh_phrases.specs.declared.comparing.OtherValue.{OtherValue}
 
 -- `<name>: <text>`, with the name by which the program was called
 abbrev pub named_line : (text name : List ℕ) → List ℕ
 named_line text name = shown name ++ (codes ": " ++ (text ++ codes "\n"))
-
--- the line of a file that is not JSON, or whose workflow type is not registered
-abbrev pub fault_line : FileFault → List ℕ → List ℕ
-fault_line fault name = named_line (file_fault_text fault) name
-
--- one line for each such file
-abbrev pub fault_lines : List FileFault → List ℕ → List ℕ
-fault_lines faults name = flat_map (λ fault. fault_line fault name) faults
 
 -- `<name>: <file>: <the command sent and the event recorded>`
 abbrev pub difference_line : (file : List ℕ) → Pairing → (name : List ℕ) → List ℕ
@@ -63,15 +52,11 @@ warning_line file value name =
 abbrev pub warning_lines : (file : List ℕ) → List OtherValue → (name : List ℕ) → List ℕ
 warning_lines file values name = flat_map (λ value. warning_line file value name) values
 
--- the notes on the verdict of a file: its difference, the detail of its fault, and its warnings
-abbrev pub note_lines : Record → List ℕ → List ℕ
-note_lines own name =
+-- the lines of a file: its difference, the detail of its fault, and its warnings
+abbrev pub record_lines : Record → List ℕ → List ℕ
+record_lines own name =
     difference_lines own.line.name own.difference name
     ++ (detail_lines own.line.name own.detail name ++ warning_lines own.line.name own.warnings name)
-
--- the lines of a file: the notes on its verdict, and why it is named
-abbrev pub record_lines : Record → List ℕ → List ℕ
-record_lines own name = note_lines own name ++ fault_lines (fault_of own own.cause) name
 
 -- the lines of files, in their order
 abbrev pub records_lines : List Record → List ℕ → List ℕ
@@ -117,7 +102,7 @@ failed_text BadArguments name = named_line (codes "arguments must be UTF-8 text"
 failed_text FewSlots name = named_line (codes "slots must be at least workers") name
 failed_text BadInput name = named_line (codes "the arguments of a query must be JSON") name
 failed_text (Unreadable dir entry reason) name = reason_line dir entry reason name
-failed_text (NotJson fault) name = fault_line fault name
+failed_text (NotJson file detail) name = detail_line file detail name
 failed_text (NotViewed file fault) name = unviewed_line file fault name
 failed_text (NotText file) name = not_text_line file name
 failed_text (BadPolicies file fault) name = bad_policies_line file fault name
@@ -128,7 +113,7 @@ failed_text OutOfMemory name = named_line (codes "out of memory") name
 abbrev pub diagnostic_text : Diagnostic → List ℕ → List ℕ
 diagnostic_text (NoFiles dir) name = named_line (codes "no .json file in " ++ dir) name
 diagnostic_text (BadNames dir names) name = bad_name_lines dir names.items name
-diagnostic_text (BadJson fault) name = fault_line fault name
+diagnostic_text (BadJson file detail) name = detail_line file detail name
 diagnostic_text (BadFiles records) name = records_lines records.items name
 diagnostic_text (Queried own) name = record_lines own name
 diagnostic_text (Failed failure) name = failed_text failure name

@@ -1,11 +1,11 @@
 -- Which failures the faults of inputs and commands are.
-use Rattle.std.specs.Prelude.{string_bytes}
+use Rattle.std.specs.Prelude.{◌≡◌, ◌⊎◌, string_bytes}
 use Rattle.wh_diagnostics.specs.declared.failures.Failure.{Failure}
 use Rattle.wh_diagnostics.specs.declared.failures.Failure.TheVariants as failures
 use Rattle.wh_file_faults.specs.declared.command_fault.CommandFault.{CommandFault}
 use Rattle.wh_file_faults.specs.declared.command_fault.CommandFault.TheVariants as faults
-use Rattle.wh_files.specs.declared.InputFault.{InputFault}
-use Rattle.wh_files.specs.declared.InputFault.TheVariants.{Unreadable, OutOfMemory}
+use Rattle.wh_console.specs.declared.files.InputFault.{InputFault}
+use Rattle.wh_console.specs.declared.files.InputFault.TheVariants.{Unreadable, OutOfMemory}
 
 -- why an input can't be read: its folder or file, the entry of the folder, and the reason, or there was no memory
 abbrev pub input_failure : InputFault → Failure
@@ -27,3 +27,7 @@ IsReadFailure _ = ⊥
 abbrev pub IsReportFailure : Failure → Type 0
 IsReportFailure failures.Output = Unit {0}
 IsReportFailure failure = IsReadFailure failure
+
+-- why what a command made is not written: it can't be, or there was no memory
+abbrev pub IsWriteFailure : Failure → Type 0
+IsWriteFailure failure = (failure ≡ failures.Output) ⊎ (failure ≡ failures.OutOfMemory)

@@ -1,4 +1,16 @@
 pub mod Diagnostics
 pub mod Failures
+pub mod Files
 pub mod Policies
 pub mod Printing
+pub mod KnownTypes
+pub mod Listings
+pub mod Readings
+pub mod Batches
+pub mod Laws
+pub mod ProgressLines
+pub mod ProgressModes
+pub mod Answers
+pub mod Commands
+pub mod Endings
+pub mod Lines

@@ -1,7 +1,7 @@
 -- Why a policy file is refused.
 use Rattle.std.specs.Prelude.{ℕ, List, ◌++◌, codes, decimal}
-use Rattle.wh_policy_file.specs.declared.fault.PolicyFault.{PolicyFault}
-use Rattle.wh_policy_file.specs.declared.fault.PolicyFault.TheVariants.{TooLong, NoText, NoToml, UnknownKey, BadValue, Above, OutOfMemory}
+use Rattle.wh_policies.specs.declared.fault.PolicyFault.{PolicyFault}
+use Rattle.wh_policies.specs.declared.fault.PolicyFault.TheVariants.{TooLong, NoText, NoToml, UnknownKey, BadValue, Above, OutOfMemory}
 use Rattle.wh_tester.specs.Report.{shown}
 
 -- what is wrong with a file, in words

@@ -2,29 +2,21 @@
 
 ghost use Rattle.std.specs.Prelude.{◌≡◌, ◌++◌, OnOk, codes};
 ghost use Rattle.std.specs.Io.KnownBytes.{Appends};
-ghost use Rattle.wh_diagnostics.specs.Diagnostics.{bad_name_line, bad_name_lines, detail_lines, diagnostic_text};
-ghost use Rattle.wh_diagnostics.specs.Diagnostics.{difference_lines, entry_line, failed_text, fault_line, fault_lines};
-ghost use Rattle.wh_diagnostics.specs.Diagnostics.{named_line, not_text_line, note_lines, path_line, reason_line};
-ghost use Rattle.wh_diagnostics.specs.Diagnostics.{record_lines, records_lines, unviewed_line, warning_line, warning_lines};
+ghost use Rattle.wh_diagnostics.specs.Diagnostics.{bad_name_line, bad_name_lines, detail_line, detail_lines, diagnostic_text, difference_lines, entry_line, failed_text, named_line, not_text_line, path_line, reason_line, record_lines, records_lines, unviewed_line, warning_line, warning_lines};
 ghost use Rattle.wh_diagnostics.specs.Policies.{bad_policies_line};
-ghost use Rattle.wh_file_faults.specs.Faults.{reported_of};
-ghost use Rattle.wh_report.specs.Reports.{fault_of};
 
 use crate::failures::Failure;
 use crate::policies::PolicyFaultText;
 use std::io;
 use std::io::Write;
-use wh_console::Message;
+use wh_console::{Message, Reason};
 use wh_events::Text;
-use wh_file_faults::FileFault;
-use wh_files::Reason;
+use wh_file_faults::FaultDetail;
 use wh_json::ReadFault;
-use wh_phrases::SidesText;
-use wh_policy_file::PolicyFault;
+use wh_phrases::{OtherValue, OtherValueText, SidesText};
+use wh_policies::PolicyFault;
 use wh_report::Record;
 use wh_tester::{FaultText, Shown};
-use wh_values::{OtherValue, OtherValueText};
-use wh_verdict::Line;
 
 /// What a command may report on the standard error.
 #[derive(Drop)]
@@ -43,12 +35,13 @@ pub enum Diagnostic {
     },
     /// A file is not JSON.
     BadJson {
-        /// The file, and where it stops being JSON.
-        fault: FileFault,
+        /// The name of the file.
+        file: Text,
+        /// Where it stops being JSON.
+        detail: FaultDetail,
     },
     /// What the report does not say of files: the command sent and the event recorded where they
-    /// differ, the details of their faults, their warnings, and which of them are not JSON or have
-    /// a workflow type that is not registered.
+    /// differ, the details of their faults, and their warnings.
     BadFiles {
         /// The records of the files.
         records: Vec<Record>,
@@ -90,57 +83,19 @@ fn write_no_files<E: Write>(dir: &str, name: &str, writer: &mut E) -> io::Result
     writeln!(writer, "{name}: no .json file in {dir}")
 }
 
-/// Writes that a file is not JSON, or that its workflow type is not registered.
-fn write_fault<E: Write>(fault: &FileFault, name: &str, writer: &mut E) -> io::Result<()>
-    ensures { OnOk result (Appends (E.contents writer.old) (E.contents writer.new) (fault_line fault.now name.now)) }
-{
-    let name = Shown(name);
-    writeln!(writer, "{name}: {fault}")
-}
-
-/// Writes one line for each file that is not JSON, or whose workflow type is not registered. After
-/// an error part of the lines may have been written.
-pub fn write_faults<E: Write>(faults: Vec<FileFault>, name: &str, writer: &mut E) -> io::Result<()>
+/// Writes the line of the detail of a file's fault. After an error part of it may have been written.
+pub fn write_detail<E: Write>(
+    file: &str,
+    detail: &FaultDetail,
+    name: &str,
+    writer: &mut E,
+) -> io::Result<()>
     ensures written { OnOk result (Appends (E.contents writer.old) (E.contents writer.new)
-        (fault_lines faults.items name.now)) }
+        (detail_line file.now detail.now name.now)) }
 {
-    for fault in faults {
-        write_fault(&fault, name, writer)?;
-    }
-    Ok(())
-}
-
-/// Returns why a file is named beside the report, if it is.
-fn fault_of(own: Record) -> Option<FileFault>
-    ensures { reported_of result ≡ fault_of own own.cause }
-{
-    let Record {
-        line,
-        cause,
-        detail,
-        difference,
-        warnings,
-    } = own;
-    drop(detail);
-    drop(difference);
-    drop(warnings);
-    let Line { name, verdict } = line;
-    drop(verdict);
-    match cause {
-        Some(cause) => Some(FileFault { name, cause }),
-        None => None,
-    }
-}
-
-/// Writes why a file is named beside the report, if it is.
-fn write_cause<E: Write>(own: Record, name: &str, writer: &mut E) -> io::Result<()>
-    ensures { OnOk result (Appends (E.contents writer.old) (E.contents writer.new)
-        (fault_lines (fault_of own own.cause) name.now)) }
-{
-    match fault_of(own) {
-        Some(fault) => write_fault(&fault, name, writer),
-        None => Ok(()),
-    }
+    let file = Shown(file);
+    let name = Shown(name);
+    writeln!(writer, "{name}: {file}: {detail}")
 }
 
 /// Writes the command sent and the event recorded where a file's replay differs, if it does.
@@ -158,16 +113,14 @@ fn write_difference<E: Write>(own: &Record, name: &str, writer: &mut E) -> io::R
 }
 
 /// Writes the detail of a file's fault, if there is one.
-fn write_detail<E: Write>(own: &Record, name: &str, writer: &mut E) -> io::Result<()>
+fn write_detail_of<E: Write>(own: &Record, name: &str, writer: &mut E) -> io::Result<()>
     ensures { OnOk result (Appends (E.contents writer.old) (E.contents writer.new)
         (detail_lines own.now.line.name own.now.detail name.now)) }
 {
-    let Some(detail) = &own.detail else {
-        return Ok(());
-    };
-    let file = Shown(own.line.name.get());
-    let name = Shown(name);
-    writeln!(writer, "{name}: {file}: {detail}")
+    match &own.detail {
+        Some(detail) => write_detail(own.line.name.get(), detail, name, writer),
+        None => Ok(()),
+    }
 }
 
 /// Writes a warning: a value of a file that differs from what is recorded.
@@ -202,33 +155,20 @@ fn write_warnings<E: Write>(
     Ok(())
 }
 
-/// Writes the notes on the verdict of a file: its difference, the detail of its fault, and its
+/// Writes the lines of a file beside the report: its difference, the detail of its fault, and its
 /// warnings.
-fn write_notes<E: Write>(own: &Record, name: &str, writer: &mut E) -> io::Result<()>
-    ensures { OnOk result (Appends (E.contents writer.old) (E.contents writer.new) (note_lines own.now name.now)) }
+fn write_record<E: Write>(own: &Record, name: &str, writer: &mut E) -> io::Result<()>
+    ensures { OnOk result (Appends (E.contents writer.old) (E.contents writer.new) (record_lines own.now name.now)) }
 {
     write_difference(own, name, writer)?;
-    write_detail(own, name, writer)?;
+    write_detail_of(own, name, writer)?;
     write_warnings(own.line.name.get(), own.warnings.get(), name, writer)
 }
 
-/// Writes the lines of a file beside the report: the notes on its verdict, and why it is named.
-fn write_record<E: Write>(own: Record, name: &str, writer: &mut E) -> io::Result<()>
-    ensures { OnOk result (Appends (E.contents writer.old) (E.contents writer.new) (record_lines own name.now)) }
-{
-    match write_notes(&own, name, writer) {
-        Ok(()) => write_cause(own, name, writer),
-        Err(error) => {
-            drop(own);
-            Err(error)
-        }
-    }
-}
-
 /// Writes the lines of files beside the report, in their order.
-fn write_records<E: Write>(records: Vec<Record>, name: &str, writer: &mut E) -> io::Result<()>
+fn write_records<E: Write>(records: &[Record], name: &str, writer: &mut E) -> io::Result<()>
     ensures { OnOk result (Appends (E.contents writer.old) (E.contents writer.new)
-        (records_lines records.items name.now)) }
+        (records_lines records.now name.now)) }
 {
     for own in records {
         write_record(own, name, writer)?;
@@ -362,7 +302,7 @@ fn write_failed<E: Write>(failure: &Failure, name: &str, writer: &mut E) -> io::
         Failure::Unreadable { dir, entry, reason } => {
             write_unreadable(dir.get(), entry, *reason, name, writer)
         }
-        Failure::NotJson { fault } => write_fault(fault, name, writer),
+        Failure::NotJson { file, detail } => write_detail(file.get(), detail, name, writer),
         Failure::NotViewed { file, fault } => write_not_viewed(file.get(), fault, name, writer),
         Failure::NotText { file } => write_not_text(file.get(), name, writer),
         Failure::BadPolicies { file, fault } => write_policies(file.get(), fault, name, writer),
@@ -379,9 +319,9 @@ fn write_diagnostic<E: Write>(diagnostic: Diagnostic, name: &str, writer: &mut E
     match diagnostic {
         Diagnostic::NoFiles { dir } => write_no_files(dir.get(), name, writer),
         Diagnostic::BadNames { dir, names } => write_bad_names(dir.get(), names, name, writer),
-        Diagnostic::BadJson { fault } => write_fault(&fault, name, writer),
-        Diagnostic::BadFiles { records } => write_records(records, name, writer),
-        Diagnostic::Queried { own } => write_record(own, name, writer),
+        Diagnostic::BadJson { file, detail } => write_detail(file.get(), &detail, name, writer),
+        Diagnostic::BadFiles { records } => write_records(records.as_slice(), name, writer),
+        Diagnostic::Queried { own } => write_record(&own, name, writer),
         Diagnostic::Failed { failure } => write_failed(&failure, name, writer),
     }
 }

@@ -1,13 +1,13 @@
 //! Why a command ends without a full report.
 
 ghost use Rattle.std.specs.Prelude.{◌≡◌, None};
-ghost use Rattle.wh_files.specs.declared.Reason.{Reason};
+ghost use Rattle.wh_console.specs.declared.files.Reason.{Reason};
 
+use wh_console::{FolderFault, InputFault, Reason};
 use wh_events::Text;
-use wh_file_faults::{CommandFault, FileFault};
-use wh_files::{FolderFault, InputFault, Reason};
+use wh_file_faults::{CommandFault, FaultDetail};
 use wh_json::ReadFault;
-use wh_policy_file::PolicyFault;
+use wh_policies::PolicyFault;
 
 /// Why a command ends without a full report.
 #[derive(Drop)]
@@ -34,8 +34,10 @@ pub enum Failure {
     },
     /// A file whose events are to be shown is not JSON.
     NotJson {
-        /// The file, and where it stops being JSON.
-        fault: FileFault,
+        /// The name of the file.
+        file: Text,
+        /// Where it stops being JSON.
+        detail: FaultDetail,
     },
     /// A file has no events that can be shown.
     NotViewed {
@@ -99,7 +101,7 @@ impl From<CommandFault> for Failure {
 }
 
 /// Returns the failure of a path that can't be read.
-pub fn unreadable(path: Text, fault: FolderFault) -> Failure
+pub fn unreadable_path(path: Text, fault: FolderFault) -> Failure
     ensures unreadable { (reason : Reason) → fault ≡ FolderFault.Unreadable reason
         → result ≡ Failure.Unreadable path None reason }
     ensures memory { fault ≡ FolderFault.OutOfMemory → result ≡ Failure.OutOfMemory }

@@ -4,7 +4,7 @@ ghost use Rattle.std.specs.Prelude.{Some};
 ghost use Rattle.wh_diagnostics.specs.Policies.{policy_fault_text};
 
 use std::fmt;
-use wh_policy_file::PolicyFault;
+use wh_policies::PolicyFault;
 use wh_tester::Shown;
 
 /// The fault of a policy file that is refused, as text: what is wrong with it, and the key and the

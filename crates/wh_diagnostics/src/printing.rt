@@ -12,7 +12,7 @@ use wh_file_faults::CommandFault;
 
 /// Flushes what a command wrote, and returns its status. If the command had a fault, that is
 /// returned; if the output can't be flushed, `Output`.
-pub fn flushed<O: Write, E: Write>(
+pub fn flush_answer<O: Write, E: Write>(
     answer: Result<u8, CommandFault>,
     console: &mut Console<'_, O, E>,
 ) -> Result<u8, Failure>
@@ -54,12 +54,12 @@ fn print_text<O: Write, E: Write>(
 /// `Output` if the text can't be written; part of it may have been written. There is no other
 /// failure.
 pub fn print<O: Write, E: Write>(text: &str, console: &mut Console<'_, O, E>) -> Result<u8, Failure>
-    ensures printed { IfOk result (HasPrinted text.now console.old console.new) }
+    ensures printed { IfOk result (HasPrinted text.now 0 console.old console.new) }
     ensures output { IfErr result (λ failure. failure ≡ Failure.Output) }
     ensures quiet { IsQuiet console.old console.new }
 {
     let answer = print_text(text, console);
-    flushed(answer, console)
+    flush_answer(answer, console)
 }
 
 /// Returns the status of a command: 1 if files are missing, and `status` otherwise.

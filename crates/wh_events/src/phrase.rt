@@ -38,7 +38,7 @@ pub struct Phrase<'a> {
 
 impl<'a> Phrase<'a> {
     /// Returns a phrase of a kind alone.
-    pub fn bare(kind: &'static str) -> Self
+    pub fn of_kind(kind: &'static str) -> Self
         ensures { phrase_seen result ≡ bare kind.now }
     {
         Phrase {
@@ -50,32 +50,32 @@ impl<'a> Phrase<'a> {
     }
 
     /// Returns a phrase of a kind with an id.
-    pub fn named(kind: &'static str, id: &'a str) -> Self
+    pub fn with_id(kind: &'static str, id: &'a str) -> Self
         ensures { phrase_seen result ≡ named kind.now id.now }
     {
         Phrase {
             id: Some(id),
-            ..Phrase::bare(kind)
+            ..Phrase::of_kind(kind)
         }
     }
 
     /// Returns a phrase of a kind with an id and a type.
-    pub fn typed(kind: &'static str, id: &'a str, name: &'a str) -> Self
+    pub fn with_type(kind: &'static str, id: &'a str, name: &'a str) -> Self
         ensures { phrase_seen result ≡ typed kind.now id.now name.now }
     {
         Phrase {
             name: Some(name),
-            ..Phrase::named(kind, id)
+            ..Phrase::with_id(kind, id)
         }
     }
 
     /// Returns a phrase of a kind with an id and what follows it.
-    pub fn detailed(kind: &'static str, id: &'a str, detail: Detail) -> Self
+    pub fn with_detail(kind: &'static str, id: &'a str, detail: Detail) -> Self
         ensures { phrase_seen result ≡ detailed kind.now id.now detail }
     {
         Phrase {
             detail,
-            ..Phrase::named(kind, id)
+            ..Phrase::with_id(kind, id)
         }
     }
 }

@@ -16,13 +16,13 @@ use Rattle.wh_replay.specs.declared.fault.Fault.TheVariants.{Workflow as Workflo
 use Rattle.wh_replay.specs.Replays.{ReplayResult, close_task, reached, task_after, unless_mismatch}
 use Rattle.wh_replay.specs.Views.{context_after}
 use Rattle.wh_replay.proofs.Stepping.{task_at}
-use Rattle.wh_explain.specs.declared.explanation.Detail.{Detail}
-use Rattle.wh_explain.specs.declared.explanation.Detail.TheVariants.{Verdict, Steps}
+use Rattle.wh_explain.specs.declared.explanation.DetailLevel.{DetailLevel}
+use Rattle.wh_explain.specs.declared.explanation.DetailLevel.TheVariants.{Verdict, Steps}
 use Rattle.wh_explain.specs.declared.explanation.Ending.{Ending}
 use Rattle.wh_explain.specs.declared.explanation.Ending.TheVariants.{Refused, Live, Recorded}
 use Rattle.wh_explain.specs.declared.explanation.ExplainedTask.{ExplainedTask}
 use Rattle.wh_explain.specs.declared.explanation.Pairing.{Pairing}
-use Rattle.wh_explain.specs.declared.walk.TaskEnd.{TaskEnd}
+use Rattle.wh_explain.specs.declared.walk.TaskConclusion.{TaskConclusion}
 use Rattle.wh_explain.specs.Differences.{difference_at, difference_of, if_differs, last_difference, last_of}
 use Rattle.wh_explain.specs.Explaining.{IsTask, sent_ending, stops, unless_refused}
 use Rattle.wh_explain.specs.Pairings.{differs, pairings}
@@ -35,11 +35,11 @@ use Rattle.wh_explain.proofs.Traced.{keeps_whole}
 
 -- ---- what is kept
 
-pub keeps_more : {A : Type 0} (detail : Detail) (kept whole : List A) (one : Option A) (other : A) → Keeps detail kept whole → Keeps detail one (Some other) → Keeps detail (kept ++ option_to_list one) (whole ++ other ∷ [])
+pub keeps_more : {A : Type 0} (detail : DetailLevel) (kept whole : List A) (one : Option A) (other : A) → Keeps detail kept whole → Keeps detail one (Some other) → Keeps detail (kept ++ option_to_list one) (whole ++ other ∷ [])
 keeps_more Verdict kept whole one other all here = tt
 keeps_more Steps kept whole one other all here = ap (λ l. l ++ option_to_list one) all ∙ ap (λ o. whole ++ option_to_list o) here
 
-pub keeps_task : (detail : Detail) (at : ℕ) (told given : List ℕ) (kept steps : List Step) (ending : Option Ending) (whole : Ending) → Keeps detail told given → Keeps detail kept steps → Keeps detail ending (Some whole)
+pub keeps_task : (detail : DetailLevel) (at : ℕ) (told given : List ℕ) (kept steps : List Step) (ending : Option Ending) (whole : Ending) → Keeps detail told given → Keeps detail kept steps → Keeps detail ending (Some whole)
     → Keeps detail (option_map (explained_task at told kept) ending) (Some (explained_task at given steps whole))
 keeps_task Verdict at told given kept steps ending whole known all here = tt
 keeps_task Steps at told given kept steps ending whole known all here =
@@ -74,7 +74,7 @@ no_difference events sent recorded none =
 -- ---- the end of a task
 
 -- a recorded task
-pub recorded_end : (detail : Detail) (at : ℕ) (events : List Event) (sent : List Command) (recorded : List Event) (found : Option Mismatch) (end : TaskEnd) → found ≡ mismatch events sent recorded
+pub recorded_end : (detail : DetailLevel) (at : ℕ) (events : List Event) (sent : List Command) (recorded : List Event) (found : Option Mismatch) (end : TaskConclusion) → found ≡ mismatch events sent recorded
     → Keeps detail end.ending (Some (Recorded (pairings events sent recorded))) → fault_of end.stop ≡ mismatch_at at found → difference_in end.stop ≡ if_some found (if_differs (last_of (pairings events sent recorded)))
     → IsEnd detail at events sent None (Some recorded) end
 recorded_end detail at events sent recorded found end is keeps stop difference = record {
@@ -88,7 +88,7 @@ recorded_end detail at events sent recorded found end is keeps stop difference =
     by (Some first) some = refl
 
 -- what is sent matters only where no command is refused
-pub end_along : (detail : Detail) (at : ℕ) (events : List Event) (sent other : List Command) (fault : Option WorkflowFault) (recorded : Option (List Event)) (end : TaskEnd) → (fault ≡ None → sent ≡ other) → IsEnd detail at events sent fault recorded end → IsEnd detail at events other fault recorded end
+pub end_along : (detail : DetailLevel) (at : ℕ) (events : List Event) (sent other : List Command) (fault : Option WorkflowFault) (recorded : Option (List Event)) (end : TaskConclusion) → (fault ≡ None → sent ≡ other) → IsEnd detail at events sent fault recorded end → IsEnd detail at events other fault recorded end
 end_along detail at events sent other None recorded end same ends = subst (λ l. IsEnd detail at events l None recorded end) (same refl) ends
 end_along detail at events sent other (Some fault) recorded end same ends = record { keeps = ends.keeps; stops_by = ends.stops_by; differs_in = ends.differs_in }
 
@@ -158,25 +158,25 @@ module _ {S : Type 0} (program : Program S) (lawful : IsLawful program) (events 
       (ended events context number left fault (below_risen left.meter current.meter (length task.steps) refl))
 
 -- a recorded task that shows nothing
-pub passed_end : (detail : Detail) (at : ℕ) (events : List Event) (sent : List Command) (recorded : List Event) (found : Option Mismatch) (end : TaskEnd) → found ≡ mismatch events sent recorded → is_passed detail found ≡ true → end.ending ≡ None → end.stop ≡ None → IsEnd detail at events sent None (Some recorded) end
+pub passed_end : (detail : DetailLevel) (at : ℕ) (events : List Event) (sent : List Command) (recorded : List Event) (found : Option Mismatch) (end : TaskConclusion) → found ≡ mismatch events sent recorded → is_passed detail found ≡ true → end.ending ≡ None → end.stop ≡ None → IsEnd detail at events sent None (Some recorded) end
 passed_end Verdict at events sent recorded None end is passes ending stop = recorded_end Verdict at events sent recorded None end is tt (ap fault_of stop) (ap difference_in stop)
 passed_end Verdict at events sent recorded (Some first) end is passes ending stop = absurd (cc)
 passed_end Steps at events sent recorded found end is passes ending stop = absurd (cc)
 
 -- one that is shown
-pub shown_end : (detail : Detail) (at : ℕ) (events : List Event) (sent : List Command) (recorded : List Event) (found : Option Mismatch) (end : TaskEnd) (shown : List Pairing) → found ≡ mismatch events sent recorded → shown ≡ pairings events sent recorded → end.ending ≡ Some (Recorded shown)
+pub shown_end : (detail : DetailLevel) (at : ℕ) (events : List Event) (sent : List Command) (recorded : List Event) (found : Option Mismatch) (end : TaskConclusion) (shown : List Pairing) → found ≡ mismatch events sent recorded → shown ≡ pairings events sent recorded → end.ending ≡ Some (Recorded shown)
     → fault_of end.stop ≡ mismatch_at at found → difference_in end.stop ≡ if_some found (if_differs (last_of shown)) → IsEnd detail at events sent None (Some recorded) end
 shown_end detail at events sent recorded found end shown is same ending fault difference =
     recorded_end detail at events sent recorded found end is (keeps_whole detail end.ending (Some (Recorded (pairings events sent recorded))) (ending ∙ ap (λ l. Some (Recorded l)) same)) fault
     (difference ∙ ap (λ l. if_some found (if_differs (last_of l))) same)
 
 -- a task with an invalid command
-pub refused_end : (detail : Detail) (at : ℕ) (events : List Event) (sent : List Command) (fault : WorkflowFault) (recorded : Option (List Event)) (end : TaskEnd) → end.ending ≡ Some Refused → fault_of end.stop ≡ Some (WorkflowFaulty at fault) → difference_in end.stop ≡ None
+pub refused_end : (detail : DetailLevel) (at : ℕ) (events : List Event) (sent : List Command) (fault : WorkflowFault) (recorded : Option (List Event)) (end : TaskConclusion) → end.ending ≡ Some Refused → fault_of end.stop ≡ Some (WorkflowFaulty at fault) → difference_in end.stop ≡ None
     → IsEnd detail at events sent (Some fault) recorded end
 refused_end detail at events sent fault recorded end ending stop difference = record { keeps = keeps_whole detail end.ending (Some Refused) ending; stops_by = stop; differs_in = difference }
 
 -- a task that is not recorded
-pub live_end : (detail : Detail) (at : ℕ) (events : List Event) (sent shown : List Command) (recorded : Option (List Event)) (end : TaskEnd) → recorded ≡ None → shown ≡ sent → end.ending ≡ Some (Live shown) → end.stop ≡ None → IsEnd detail at events sent None recorded end
+pub live_end : (detail : DetailLevel) (at : ℕ) (events : List Event) (sent shown : List Command) (recorded : Option (List Event)) (end : TaskConclusion) → recorded ≡ None → shown ≡ sent → end.ending ≡ Some (Live shown) → end.stop ≡ None → IsEnd detail at events sent None recorded end
 live_end detail at events sent shown recorded end none same ending stop =
     subst (λ o. IsEnd detail at events sent None o end) (sym none)
     (record { keeps = keeps_whole detail end.ending (Some (Live sent)) (ending ∙ ap (λ l. Some (Live l)) same); stops_by = ap fault_of stop; differs_in = ap difference_in stop })

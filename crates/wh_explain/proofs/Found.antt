@@ -24,8 +24,8 @@ use Rattle.wh_replay.specs.Checks.{checked, ends_live}
 use Rattle.wh_replay.specs.Replays.{ReplayResult, replay, replay_after, replay_known, replay_placed, replay_tasks, start, with_machines, workflow_of}
 use Rattle.wh_replay.specs.Views.{context_after}
 use Rattle.wh_replay.specs.Tracking.{in_place}
-use Rattle.wh_verdict.specs.declared.line.Verdict.TheVariants.{Faulty}
-use Rattle.wh_verdict.specs.Verdicts.{judged, read_and_judged, verdict_on}
+use Rattle.wh_tester.specs.declared.line.Verdict.TheVariants.{Faulty}
+use Rattle.wh_tester.specs.Verdicts.{judged, read_and_judged, verdict_on}
 use Rattle.wh_explain.specs.declared.explanation.Ending.{Ending}
 use Rattle.wh_explain.specs.declared.explanation.Ending.TheVariants.{Refused, Live, Recorded}
 use Rattle.wh_explain.specs.declared.explanation.ExplainedTask.{ExplainedTask}

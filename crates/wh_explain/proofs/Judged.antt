@@ -19,15 +19,15 @@ use Rattle.wh_replay.specs.declared.fault.Fault.TheVariants.{Workflow as Workflo
 use Rattle.wh_replay.specs.Checks.{checked, ends_live}
 use Rattle.wh_replay.specs.Replays.{replay_after, replay_known, replay_placed, replay_tasks, start, with_machines, workflow_of}
 use Rattle.wh_replay.specs.Tracking.{in_place}
-use Rattle.wh_verdict.specs.declared.line.Verdict.TheVariants.{Good, Unreadable, Faulty, OutOfMemory}
-use Rattle.wh_verdict.specs.Verdicts.{IsVerdict, judged, read_and_judged, verdict_on}
-use Rattle.wh_explain.specs.declared.explanation.Detail.{Detail}
+use Rattle.wh_tester.specs.declared.line.Verdict.TheVariants.{Good, Unreadable, Faulty, OutOfMemory}
+use Rattle.wh_tester.specs.Verdicts.{IsVerdict, judged, read_and_judged, verdict_on}
+use Rattle.wh_explain.specs.declared.explanation.DetailLevel.{DetailLevel}
 use Rattle.wh_explain.specs.declared.explanation.ExplainedTask.{ExplainedTask}
-use Rattle.wh_explain.specs.declared.explanation.Detail.TheVariants.{Steps}
+use Rattle.wh_explain.specs.declared.explanation.DetailLevel.TheVariants.{Steps}
 use Rattle.wh_explain.specs.declared.findings.Finding.{Finding}
 use Rattle.wh_explain.specs.declared.findings.Findings.{Findings}
-use Rattle.wh_explain.specs.declared.walk.Stop.{Stop}
-use Rattle.wh_explain.specs.declared.walk.Walk.{Walk}
+use Rattle.wh_explain.specs.declared.walk.StopReason.{StopReason}
+use Rattle.wh_explain.specs.declared.walk.ExplainedTasks.{ExplainedTasks}
 use Rattle.wh_explain.specs.Differences.{IsDifferenceIn}
 use Rattle.wh_explain.specs.Explaining.{AreTasksIf, AreTasksIn, AreTasksPlaced, unknown_in, unknown_placed}
 use Rattle.wh_explain.specs.Private.Findings.{AreFoundIn, AreFoundOf, AreFoundPlaced, checked_placed, verdict_by}
@@ -69,7 +69,7 @@ module _ {S : Type 0} (program : Program S) where
       by (Some fault) = refl
 
   -- the verdict on tasks that were stepped
-  verdict_walked : (events : List Event) (stop : Option Stop) (checks : Checked) → program.knows (workflow_of events) ≡ true → EndsBy (replay_after program [] [] events (start program (workflow_of events) 0)) (fault_of stop)
+  verdict_walked : (events : List Event) (stop : Option StopReason) (checks : Checked) → program.knows (workflow_of events) ≡ true → EndsBy (replay_after program [] [] events (start program (workflow_of events) 0)) (fault_of stop)
       → (stop ≡ None → checks.tasks ≡ length (cuts events)) → (stop ≡ None → checks.live ≡ ends_live events) → verdict_by (fault_of stop) checks ≡ judged (checked_placed program (Ok events))
   verdict_walked events None checks known ends counted lives =
       let all : Checked = record { tasks = length (cuts events); live = ends_live events } in
@@ -82,7 +82,7 @@ module _ {S : Type 0} (program : Program S) where
       ∙ ap (λ b. judged (and_then (replay_known b (replay_after program [] [] events (start program (workflow_of events) 0))) (λ _. Ok all))) (sym known)
 
   -- what replay finds if the workflow type is registered
-  pub walk_found : (detail : Detail) (events : List Event) (walk : Walk) (finding : Finding) (kept : List ExplainedTask) → program.knows (workflow_of events) ≡ true → IsWalk detail program events (program.initial (workflow_of events)) [] walk
+  pub walk_found : (detail : DetailLevel) (events : List Event) (walk : ExplainedTasks) (finding : Finding) (kept : List ExplainedTask) → program.knows (workflow_of events) ≡ true → IsWalk detail program events (program.initial (workflow_of events)) [] walk
       → kept ≡ walk.tasks.items → finding.unknown ≡ None → finding.verdict ≡ verdict_by (fault_of walk.stop) walk.checked → finding.difference ≡ difference_in walk.stop → AreFoundPlaced detail program (Ok events) finding kept
   walk_found detail events walk finding kept known walks same none verdict difference = record {
     tasks = walks.tasks;
@@ -94,7 +94,7 @@ module _ {S : Type 0} (program : Program S) where
   }
 
   -- and where there is none
-  pub no_code_found : (detail : Detail) (events : List Event) (finding : Finding) (kept : List ExplainedTask) → program.knows (workflow_of events) ≡ false → kept ≡ [] → finding.unknown ≡ Some (workflow_of events)
+  pub no_code_found : (detail : DetailLevel) (events : List Event) (finding : Finding) (kept : List ExplainedTask) → program.knows (workflow_of events) ≡ false → kept ≡ [] → finding.unknown ≡ Some (workflow_of events)
       → finding.verdict ≡ Faulty (WorkflowFaulty 1 UnknownWorkflow) → finding.difference ≡ None → AreFoundPlaced detail program (Ok events) finding kept
   no_code_found detail events finding kept unknown none kind verdict difference = record {
     tasks = [];
@@ -107,7 +107,7 @@ module _ {S : Type 0} (program : Program S) where
   }
 
   -- what is found of a history goes by where its events are
-  pub placed_found : (detail : Detail) (events : List Event) (placed : Result (List Event) Fault) (finding : Finding) (kept : List ExplainedTask) → in_place (history_fault events) events ≡ placed → AreFoundPlaced detail program placed finding kept → AreFoundOf detail program events finding kept
+  pub placed_found : (detail : DetailLevel) (events : List Event) (placed : Result (List Event) Fault) (finding : Finding) (kept : List ExplainedTask) → in_place (history_fault events) events ≡ placed → AreFoundPlaced detail program placed finding kept → AreFoundOf detail program events finding kept
   placed_found detail events placed finding kept e found = record {
     tasks = found.tasks;
     explained = subst (λ r. AreTasksPlaced r program found.tasks) (sym e) found.explained;
@@ -118,14 +118,14 @@ module _ {S : Type 0} (program : Program S) where
   }
 
   -- where they are not in place, nothing else is found
-  pub misplaced_found : (detail : Detail) (events : List Event) (fault : Fault) (finding : Finding) (kept : List ExplainedTask) → in_place (history_fault events) events ≡ Err fault → kept ≡ [] → finding.unknown ≡ None → finding.verdict ≡ Faulty fault → finding.difference ≡ None
+  pub misplaced_found : (detail : DetailLevel) (events : List Event) (fault : Fault) (finding : Finding) (kept : List ExplainedTask) → in_place (history_fault events) events ≡ Err fault → kept ≡ [] → finding.unknown ≡ None → finding.verdict ≡ Faulty fault → finding.difference ≡ None
       → AreFoundOf detail program events finding kept
   misplaced_found detail events fault finding kept e none unknown verdict difference =
       placed_found detail events (Err fault) finding kept e
       (record { tasks = []; explained = refl; keeps = keeps_whole detail kept [] none; unknown_is = unknown; verdict_is = verdict; differs_in = difference })
 
   -- what is found of a file that can be read is that of its history
-  pub read_found : (detail : Detail) (bytes : List ℕ) (events : List Event) (finding : Finding) (kept : List ExplainedTask) → history bytes ≡ Ok events → AreFoundOf detail program events finding kept → AreFoundIn detail program bytes finding kept
+  pub read_found : (detail : DetailLevel) (bytes : List ℕ) (events : List Event) (finding : Finding) (kept : List ExplainedTask) → history bytes ≡ Ok events → AreFoundOf detail program events finding kept → AreFoundIn detail program bytes finding kept
   unfolding verdict_on
   read_found detail bytes events finding kept e found = record {
     tasks = found.tasks;
@@ -137,7 +137,7 @@ module _ {S : Type 0} (program : Program S) where
   }
 
   -- of another one nothing else is found
-  pub unread_found : (detail : Detail) (bytes : List ℕ) (fault : ReadFault) (finding : Finding) (kept : List ExplainedTask) → history bytes ≡ Err fault → kept ≡ [] → finding.unknown ≡ None → finding.verdict ≡ Unreadable fault → finding.difference ≡ None
+  pub unread_found : (detail : DetailLevel) (bytes : List ℕ) (fault : ReadFault) (finding : Finding) (kept : List ExplainedTask) → history bytes ≡ Err fault → kept ≡ [] → finding.unknown ≡ None → finding.verdict ≡ Unreadable fault → finding.difference ≡ None
       → AreFoundIn detail program bytes finding kept
   unfolding verdict_on
   unread_found detail bytes fault finding kept e none unknown verdict difference = record {
@@ -150,7 +150,7 @@ module _ {S : Type 0} (program : Program S) where
   }
 
   -- what is found of a history is no fault of its bytes
-  pub history_read : (detail : Detail) (events : List Event) (finding : Finding) (kept : List ExplainedTask) → AreFoundOf detail program events finding kept → finding.verdict ≢ Unreadable ReadMemory
+  pub history_read : (detail : DetailLevel) (events : List Event) (finding : Finding) (kept : List ExplainedTask) → AreFoundOf detail program events finding kept → finding.verdict ≢ Unreadable ReadMemory
   history_read detail events finding kept found is = judged_not_read (checked program events) ReadMemory (sym found.verdict_is ∙ is)
 
   known : (read : Result (List Event) ReadFault) → read_and_judged program read ≢ OutOfMemory
@@ -158,7 +158,7 @@ module _ {S : Type 0} (program : Program S) where
   known (Err fault) is = absurd (cc)
 
   -- the verdict that is found is the one on the file
-  pub found_verdict : (detail : Detail) (bytes : List ℕ) (finding : Finding) (kept : List ExplainedTask) → AreFoundIn detail program bytes finding kept → finding.verdict ≢ Unreadable ReadMemory → IsVerdict program bytes finding.verdict
+  pub found_verdict : (detail : DetailLevel) (bytes : List ℕ) (finding : Finding) (kept : List ExplainedTask) → AreFoundIn detail program bytes finding kept → finding.verdict ≢ Unreadable ReadMemory → IsVerdict program bytes finding.verdict
   unfolding verdict_on
   found_verdict detail bytes finding kept found read = record {
     exact = λ _. found.verdict_is;
@@ -167,10 +167,10 @@ module _ {S : Type 0} (program : Program S) where
   }
 
   -- and the difference that is found is the one that it stops at
-  pub found_difference : (detail : Detail) (bytes : List ℕ) (finding : Finding) (kept : List ExplainedTask) → AreFoundIn detail program bytes finding kept → IsDifferenceIn program bytes finding.difference
+  pub found_difference : (detail : DetailLevel) (bytes : List ℕ) (finding : Finding) (kept : List ExplainedTask) → AreFoundIn detail program bytes finding kept → IsDifferenceIn program bytes finding.difference
   found_difference detail bytes finding kept found = record { tasks = found.tasks; explained = found.explained; last = found.differs_in }
 
-  pub difference_there : IsLawful program → (detail : Detail) (bytes : List ℕ) (finding : Finding) (kept : List ExplainedTask) (at : ℕ) (mismatch : Mismatch) → AreFoundIn detail program bytes finding kept → finding.verdict ≡ Faulty (Mismatched at mismatch) → IsSome finding.difference
+  pub difference_there : IsLawful program → (detail : DetailLevel) (bytes : List ℕ) (finding : Finding) (kept : List ExplainedTask) (at : ℕ) (mismatch : Mismatch) → AreFoundIn detail program bytes finding kept → finding.verdict ≡ Faulty (Mismatched at mismatch) → IsSome finding.difference
   difference_there lawful detail bytes finding kept at mismatch found is =
       difference_found program lawful bytes finding.difference (found_difference detail bytes finding kept found) (at, mismatch, sym found.verdict_is ∙ is)
 
@@ -179,7 +179,7 @@ named_by None kind is = tt
 named_by (Some own) kind is = sym is
 
 -- a workflow type that is found is the one without code
-pub found_named : {S : Type 0} (program : Program S) (detail : Detail) (bytes : List ℕ) (finding : Finding) (kept : List ExplainedTask) → AreFoundIn detail program bytes finding kept → IfSome finding.unknown (λ kind. unknown_in program (history bytes) ≡ Some kind)
+pub found_named : {S : Type 0} (program : Program S) (detail : DetailLevel) (bytes : List ℕ) (finding : Finding) (kept : List ExplainedTask) → AreFoundIn detail program bytes finding kept → IfSome finding.unknown (λ kind. unknown_in program (history bytes) ≡ Some kind)
 found_named program detail bytes finding kept found = named_by finding.unknown (unknown_in program (history bytes)) found.unknown_is
 
 -- what follows of the value
@@ -188,7 +188,7 @@ all_ok (Ok x) f p = f x p
 all_ok (Err e) f p = tt
 
 -- what replay finds if the workflow type is not registered, if there is memory for it
-pub no_code_given : {S E : Type 0} (program : Program S) (detail : Detail) (events : List Event) (kind : List ℕ) (given : Result Findings E) → program.knows (workflow_of events) ≡ false → kind ≡ workflow_of events → IfOk given (λ f. f.tasks.items ≡ [])
+pub no_code_given : {S E : Type 0} (program : Program S) (detail : DetailLevel) (events : List Event) (kind : List ℕ) (given : Result Findings E) → program.knows (workflow_of events) ≡ false → kind ≡ workflow_of events → IfOk given (λ f. f.tasks.items ≡ [])
     → IfOk given (λ f. f.finding.unknown ≡ Some kind) → IfOk given (λ f. f.finding.difference ≡ None) → IfOk given (λ f. f.finding.verdict ≡ Faulty (WorkflowFaulty 1 UnknownWorkflow))
     → IfOk given (λ f. AreFoundPlaced detail program (Ok events) f.finding f.tasks.items)
 no_code_given program detail events kind (Ok f) unknown same tasks named difference verdict = no_code_found program detail events f.finding f.tasks.items unknown tasks (named ∙ ap Some same) verdict difference
@@ -199,7 +199,7 @@ pub kept_found : {S : Type 0} (program : Program S) (bytes : List ℕ) (finding 
 kept_found program bytes finding kept found = subst (AreTasksIn program (history bytes)) (sym found.keeps) found.explained
 
 -- what is found of a file that can't be read
-pub unread_given : {S E : Type 0} (program : Program S) (detail : Detail) (bytes : List ℕ) (fault : ReadFault) (given : Result Findings E) → IfOk given (λ f. f.finding ≡ record { verdict = Unreadable fault; unknown = None; difference = None }) → IfOk given (λ f. f.tasks.items ≡ [])
+pub unread_given : {S E : Type 0} (program : Program S) (detail : DetailLevel) (bytes : List ℕ) (fault : ReadFault) (given : Result Findings E) → IfOk given (λ f. f.finding ≡ record { verdict = Unreadable fault; unknown = None; difference = None }) → IfOk given (λ f. f.tasks.items ≡ [])
     → IfOk given (λ _. fault ≢ ReadMemory) → (fault ≢ ReadMemory → history bytes ≡ Err fault) → IfOk given (λ f. AreFoundIn detail program bytes f.finding f.tasks.items)
 unread_given program detail bytes fault (Ok f) own tasks known exact =
     unread_found program detail bytes fault f.finding f.tasks.items (exact known) tasks (ap (λ (x : Finding). x.unknown) own) (ap (λ (x : Finding). x.verdict) own) (ap (λ (x : Finding). x.difference) own)

@@ -17,12 +17,12 @@ use Rattle.wh_match.specs.declared.fault.ScriptFault.TheVariants.{Workflow, OutO
 use Rattle.wh_replay.specs.Views.{progress}
 use Rattle.wh_replay.proofs.Settling.{settled_less, ok_same}
 use Rattle.wh_replay.specs.Activating.{StopsBy}
-use Rattle.wh_explain.specs.declared.explanation.Detail.{Detail}
-use Rattle.wh_explain.specs.declared.explanation.Detail.TheVariants.{Verdict, Steps}
+use Rattle.wh_explain.specs.declared.explanation.DetailLevel.{DetailLevel}
+use Rattle.wh_explain.specs.declared.explanation.DetailLevel.TheVariants.{Verdict, Steps}
 use Rattle.wh_explain.specs.Private.Stepping.{AddsOneStep, AddsStep, Keeps, Shows, Leaves}
 
 -- what is kept may be the whole
-pub keeps_whole : {A : Type 0} (detail : Detail) (kept whole : A) → kept ≡ whole → Keeps detail kept whole
+pub keeps_whole : {A : Type 0} (detail : DetailLevel) (kept whole : A) → kept ≡ whole → Keeps detail kept whole
 keeps_whole Verdict kept whole is = tt
 keeps_whole Steps kept whole is = is
 

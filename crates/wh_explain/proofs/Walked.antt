@@ -15,10 +15,10 @@ use Rattle.wh_split.specs.Splits.{first_of}
 use Rattle.wh_replay.specs.Replays.{ReplayResult, replay_after}
 use Rattle.wh_replay.specs.Views.{context_of, context_after}
 use Rattle.wh_replay.proofs.Stepping.{IsNext, no_cut, task_at, walk_err, walk_ok}
-use Rattle.wh_explain.specs.declared.explanation.Detail.{Detail}
+use Rattle.wh_explain.specs.declared.explanation.DetailLevel.{DetailLevel}
 use Rattle.wh_explain.specs.declared.explanation.ExplainedTask.{ExplainedTask}
-use Rattle.wh_explain.specs.declared.walk.Stop.{Stop}
-use Rattle.wh_explain.specs.declared.walk.Walk.{Walk}
+use Rattle.wh_explain.specs.declared.walk.StopReason.{StopReason}
+use Rattle.wh_explain.specs.declared.walk.ExplainedTasks.{ExplainedTasks}
 use Rattle.wh_explain.specs.Differences.{difference_at, last_difference}
 use Rattle.wh_explain.specs.Explaining.{IsTask, stops}
 use Rattle.wh_explain.specs.Private.Stepping.{Keeps}
@@ -29,7 +29,7 @@ use Rattle.wh_explain.proofs.Ends.{LeavesBy, keeps_more, last_differs, task_leav
 use Rattle.wh_explain.proofs.Tasks.{Continues, goes_past, no_cut_left, stops_here}
 
 -- what is found of a task, at the number of its cut in the history
-pub fault_here : (events : List Event) (last : ℕ) (cut : Cut) (settled : Settled) (task : ExplainedTask) (stop : Option Stop) → IsCutAfter events last cut
+pub fault_here : (events : List Event) (last : ℕ) (cut : Cut) (settled : Settled) (task : ExplainedTask) (stop : Option StopReason) → IsCutAfter events last cut
     → fault_of stop ≡ task_fault cut.track.now (context_of cut) settled cut.number task.steps → fault_of stop ≡ task_fault events (context_after events last cut.number) settled cut.number task.steps
 fault_here events last cut settled task stop is here =
     here ∙ (ap (λ l. task_fault l (context_of cut) settled cut.number task.steps) is.history ∙ ap (λ k. task_fault events k settled cut.number task.steps) is.context)
@@ -39,7 +39,7 @@ both_ways one found some none = cc
 
 module _ {S : Type 0} (program : Program S) (events : List Event) (start : S) (settled : Settled) where
   -- the tasks so far, none of which has a fault
-  pub record AreDone (detail : Detail) (kept : List ExplainedTask) (last : ℕ) (state : S) (versions : Settled) : Type 0 where
+  pub record AreDone (detail : DetailLevel) (kept : List ExplainedTask) (last : ℕ) (state : S) (versions : Settled) : Type 0 where
     pub done : List ExplainedTask
     pub keeps : Keeps detail kept done
     pub continues : Continues program events start settled done last state versions
@@ -88,7 +88,7 @@ module _ {S : Type 0} (program : Program S) (lawful : IsLawful program) (events 
       }
 
   -- one more task, without a fault
-  pub done_more : (detail : Detail) (kept more : List ExplainedTask) (one : Option ExplainedTask) (last number : ℕ) (state next : S) (versions leaves : Settled) (task : ExplainedTask) → more ≡ kept ++ option_to_list one → AreDone program events start settled detail kept last state versions
+  pub done_more : (detail : DetailLevel) (kept more : List ExplainedTask) (one : Option ExplainedTask) (last number : ℕ) (state next : S) (versions leaves : Settled) (task : ExplainedTask) → more ≡ kept ++ option_to_list one → AreDone program events start settled detail kept last state versions
       → cuts (drop last events) ≡ number ∷ cuts (drop number events) → IsTask program events last number state versions task → Keeps detail one (Some task) → None ≡ task_fault events (context_after events last number) versions number task.steps → None ≡ difference_at task.ending
       → LeavesTask program state versions task next leaves → AreDone program events start settled detail more number next leaves
   done_more detail kept more one last number state next versions leaves task added done counts t keep fault difference left =
@@ -103,7 +103,7 @@ module _ {S : Type 0} (program : Program S) (lawful : IsLawful program) (events 
       }
 
   -- a task that has a fault is the last
-  pub walk_stopped : (detail : Detail) (walk : Walk) (stop : Stop) (kept more : List ExplainedTask) (one : Option ExplainedTask) (last number : ℕ) (state : S) (versions : Settled) (task : ExplainedTask) → walk.tasks.items ≡ more → more ≡ kept ++ option_to_list one → walk.stop ≡ Some stop
+  pub walk_stopped : (detail : DetailLevel) (walk : ExplainedTasks) (stop : StopReason) (kept more : List ExplainedTask) (one : Option ExplainedTask) (last number : ℕ) (state : S) (versions : Settled) (task : ExplainedTask) → walk.tasks.items ≡ more → more ≡ kept ++ option_to_list one → walk.stop ≡ Some stop
       → AreDone program events start settled detail kept last state versions → HasReached program events start settled last state versions → IsNext events last number → cuts (drop last events) ≡ number ∷ cuts (drop number events) → IsTask program events last number state versions task → Keeps detail one (Some task)
       → Some stop.fault ≡ task_fault events (context_after events last number) versions number task.steps → stop.difference ≡ difference_at task.ending → IsWalk detail program events start settled walk
   walk_stopped detail walk stop kept more one last number state versions task same added some done reached n counts t keep fault difference =
@@ -120,7 +120,7 @@ module _ {S : Type 0} (program : Program S) (lawful : IsLawful program) (events 
       }
 
   -- no cut is left
-  pub walk_ended : (detail : Detail) (walk : Walk) (kept : List ExplainedTask) (count last : ℕ) (live : Bool) (state : S) (versions : Settled) → walk.tasks.items ≡ kept → walk.stop ≡ None → walk.checked ≡ record { tasks = count; live = live }
+  pub walk_ended : (detail : DetailLevel) (walk : ExplainedTasks) (kept : List ExplainedTask) (count last : ℕ) (live : Bool) (state : S) (versions : Settled) → walk.tasks.items ≡ kept → walk.stop ≡ None → walk.checked ≡ record { tasks = count; live = live }
       → AreDone program events start settled detail kept last state versions → HasReached program events start settled last state versions → cuts (drop last events) ≡ [] → count ≡ length (cuts events) → live ≡ ends_live events → IsWalk detail program events start settled walk
   walk_ended detail walk kept count last live state versions same none checks done reached left counted lives = record {
     tasks = done.done;

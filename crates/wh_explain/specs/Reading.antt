@@ -7,7 +7,7 @@ use Rattle.wh_json.specs.Outcome.{Gives}
 use Rattle.wh_json.specs.declared.fault.ReadFault.{ReadFault}
 use Rattle.wh_json.specs.declared.fault.ReadFault.TheVariants.{OutOfMemory}
 use Rattle.wh_workflow.specs.Law.{Program}
-use Rattle.wh_verdict.specs.Verdicts.{IsVerdict}
+use Rattle.wh_tester.specs.Verdicts.{IsVerdict}
 use Rattle.wh_explain.specs.declared.explanation.ExplainedTask.{ExplainedTask}
 use Rattle.wh_explain.specs.declared.findings.Finding.{Finding}
 use Rattle.wh_explain.specs.Differences.{last_difference}

@@ -2,12 +2,12 @@
 
 use std::marker::Model;
 use wh_events::{EventKind, EventNo, Items, OutOfMemory, Text};
-use wh_verdict::Line;
+use wh_tester::Line;
 use wh_workflow::{Command, Job};
 
 /// How much of a replay is kept.
 #[derive(Clone, Copy)]
-pub(crate) enum Detail {
+pub(crate) enum DetailLevel {
     /// The verdict, and the difference that the replay stops at.
     Verdict,
     /// Each task with the steps of its activation.
@@ -128,7 +128,7 @@ impl Pairing {
     }
 
     /// Pairs a copy of a command with no event.
-    pub(crate) fn extra(command: &Command) -> Result<Pairing, OutOfMemory>
+    pub(crate) fn of_command(command: &Command) -> Result<Pairing, OutOfMemory>
         ensures { IfOk result (λ pairing. pairing ≡ CommandExtra command.now) }
     {
         Ok(Pairing::CommandExtra {
@@ -137,7 +137,7 @@ impl Pairing {
     }
 
     /// Pairs no command with a copy of an event.
-    fn missing(event: &RecordedEvent) -> Result<Pairing, OutOfMemory>
+    fn of_event(event: &RecordedEvent) -> Result<Pairing, OutOfMemory>
         ensures { IfOk result (λ pairing. pairing ≡ CommandMissing event.now) }
     {
         Ok(Pairing::CommandMissing {
@@ -146,7 +146,11 @@ impl Pairing {
     }
 
     /// Pairs copies of a command and of the event in its place, which matches the command or not.
-    fn both(alike: bool, command: &Command, event: &RecordedEvent) -> Result<Pairing, OutOfMemory>
+    fn of_both(
+        alike: bool,
+        command: &Command,
+        event: &RecordedEvent,
+    ) -> Result<Pairing, OutOfMemory>
         ensures { IfOk result (λ pairing.
             pairing ≡ if alike then Alike command.now event.now else Different command.now event.now) }
     {
@@ -165,10 +169,10 @@ impl Pairing {
         ensures { IfOk result (λ copy. copy ≡ self.now) }
     {
         match self {
-            Pairing::Alike { command, event } => Pairing::both(true, command, event),
-            Pairing::Different { command, event } => Pairing::both(false, command, event),
-            Pairing::CommandMissing { event } => Pairing::missing(event),
-            Pairing::CommandExtra { command } => Pairing::extra(command),
+            Pairing::Alike { command, event } => Pairing::of_both(true, command, event),
+            Pairing::Different { command, event } => Pairing::of_both(false, command, event),
+            Pairing::CommandMissing { event } => Pairing::of_event(event),
+            Pairing::CommandExtra { command } => Pairing::of_command(command),
         }
     }
 }

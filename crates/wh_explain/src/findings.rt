@@ -6,21 +6,21 @@ ghost use Rattle.wh_json.specs.declared.fault.ReadFault.TheVariants.{OutOfMemory
 ghost use Rattle.wh_replay.specs.declared.fault.Fault.TheVariants.{Mismatch as Mismatched, Workflow as WorkflowFaulty};
 ghost use Rattle.wh_workflow.specs.declared.fault.Mismatch.{Mismatch};
 ghost use Rattle.wh_workflow.specs.declared.fault.WorkflowFault.TheVariants.{UnknownWorkflow};
-ghost use Rattle.wh_verdict.specs.Verdicts.{IsVerdict};
+ghost use Rattle.wh_tester.specs.Verdicts.{IsVerdict};
 ghost use Rattle.wh_explain.specs.Differences.{IsDifferenceIn};
 ghost use Rattle.wh_explain.specs.Explaining.{AreTasksIn, unknown_in, unknown_placed};
 ghost use Rattle.wh_explain.specs.Reading.{AreExplained, IsReadOf};
 ghost use Rattle.wh_explain.specs.Private.Findings.{AreFoundIn, AreFoundOf, AreFoundPlaced, verdict_by};
 ghost use Rattle.wh_explain.specs.Private.Tasks.{difference_in, fault_of};
 
-use crate::explanation::{Detail, ExplainedTask, Explanation, Pairing};
-use crate::walk::{Stop, Walk, walk_tasks};
+use crate::explanation::{DetailLevel, ExplainedTask, Explanation, Pairing};
+use crate::walk::{ExplainedTasks, StopReason, walk_tasks};
 use std::alloc::Global;
 use wh_events::{Event, Items, OutOfMemory, Text};
 use wh_json::{ReadFault, read_events};
 use wh_machines::Track;
 use wh_replay::{Checked, Fault, RunFault, start, track_of, workflow_of};
-use wh_verdict::{Line, Verdict};
+use wh_tester::{Line, Verdict};
 use wh_workflow::{Workflow, WorkflowFault};
 
 /// What the replay of a history file finds.
@@ -42,7 +42,7 @@ struct Findings {
 }
 
 /// Returns findings with nothing but a verdict.
-fn judged(alloc: Global, verdict: Verdict) -> Findings
+fn verdict_findings(alloc: Global, verdict: Verdict) -> Findings
     ensures finding { result.finding ≡ record { verdict = verdict; unknown = None; difference = None } }
     ensures tasks { result.tasks.items ≡ [] }
 {
@@ -79,29 +79,29 @@ fn no_code(alloc: Global, kind: &str) -> Result<Findings, OutOfMemory>
 }
 
 /// Returns the verdict on the tasks of a history, and the difference that they stop at, if they do.
-fn ended(stop: Option<Stop>, checked: Checked) -> (Verdict, Option<Pairing>)
+fn verdict_and_difference(stop: Option<StopReason>, checked: Checked) -> (Verdict, Option<Pairing>)
     ensures verdict { result.0 ≡ verdict_by (fault_of stop) checked }
     ensures difference { result.1 ≡ difference_in stop }
 {
     match stop {
         None => (Verdict::Good(checked), None),
-        Some(Stop { fault, difference }) => (Verdict::Faulty(fault), difference),
+        Some(StopReason { fault, difference }) => (Verdict::Faulty(fault), difference),
     }
 }
 
 /// Returns the findings of a walk over the tasks of a history.
-fn walked(walk: Walk) -> Findings
+fn walk_findings(walk: ExplainedTasks) -> Findings
     ensures tasks { result.tasks ≡ walk.tasks }
     ensures unknown { result.finding.unknown ≡ None }
     ensures verdict { result.finding.verdict ≡ verdict_by (fault_of walk.stop) walk.checked }
     ensures difference { result.finding.difference ≡ difference_in walk.stop }
 {
-    let Walk {
+    let ExplainedTasks {
         tasks,
         stop,
         checked,
     } = walk;
-    let (verdict, difference) = ended(stop, checked);
+    let (verdict, difference) = verdict_and_difference(stop, checked);
     Findings {
         finding: Finding {
             verdict,
@@ -116,7 +116,7 @@ fn walked(walk: Walk) -> Findings
 /// type is not registered.
 fn find_in_track<W: Workflow>(
     alloc: Global,
-    detail: Detail,
+    detail: DetailLevel,
     track: &Track,
 ) -> Result<Findings, OutOfMemory>
     ensures { IfOk result (λ found. AreFoundPlaced detail W.program (Ok track.now) found.finding found.tasks.items) }
@@ -126,14 +126,14 @@ fn find_in_track<W: Workflow>(
         return no_code(alloc, kind);
     }
     let first = start::<W>(alloc, kind)?;
-    Ok(walked(walk_tasks::<W>(alloc, detail, track, first)?))
+    Ok(walk_findings(walk_tasks::<W>(alloc, detail, track, first)?))
 }
 
 /// Returns the findings of a history. There are no tasks if its events are not in place, or if its
 /// workflow type is not registered.
 fn find_in_events<W: Workflow>(
     alloc: Global,
-    detail: Detail,
+    detail: DetailLevel,
     events: Vec<Event>,
 ) -> Result<Findings, OutOfMemory>
     ensures { IfOk result (λ found. AreFoundOf detail W.program events.items found.finding found.tasks.items) }
@@ -141,12 +141,12 @@ fn find_in_events<W: Workflow>(
     match track_of(alloc, events) {
         Ok(track) => find_in_track::<W>(alloc, detail, &track),
         Err(RunFault::OutOfMemory) => Err(OutOfMemory),
-        Err(RunFault::Fault(fault)) => Ok(judged(alloc, Verdict::Faulty(fault))),
+        Err(RunFault::Fault(fault)) => Ok(verdict_findings(alloc, Verdict::Faulty(fault))),
     }
 }
 
 /// Returns the findings of a file that can't be read, if there was memory to read it.
-fn unread(alloc: Global, fault: ReadFault) -> Result<Findings, OutOfMemory>
+fn unread_findings(alloc: Global, fault: ReadFault) -> Result<Findings, OutOfMemory>
     ensures finding { IfOk result (λ found.
         found.finding ≡ record { verdict = Verdict.Unreadable fault; unknown = None; difference = None }) }
     ensures tasks { IfOk result (λ found. found.tasks.items ≡ []) }
@@ -155,16 +155,16 @@ fn unread(alloc: Global, fault: ReadFault) -> Result<Findings, OutOfMemory>
 {
     match fault {
         ReadFault::OutOfMemory => Err(OutOfMemory),
-        fault => Ok(judged(alloc, Verdict::Unreadable(fault))),
+        fault => Ok(verdict_findings(alloc, Verdict::Unreadable(fault))),
     }
 }
 
 /// Returns the findings of a file by the result of reading it. There are no tasks if it can't be
 /// read.
-#[tactic(auto, unfolding(wh_verdict::specs::Verdicts::verdict_on), using(wh_verdict::proofs::Reading::read_within))]
+#[tactic(auto, unfolding(wh_tester::specs::Verdicts::verdict_on), using(wh_tester::proofs::Reading::read_within))]
 fn find_in_read<W: Workflow>(
     alloc: Global,
-    detail: Detail,
+    detail: DetailLevel,
     read: Result<Vec<Event>, ReadFault>,
 ) -> Result<Findings, OutOfMemory>
     ensures found { (bytes : List ℕ) → IsReadOf bytes read
@@ -174,7 +174,7 @@ fn find_in_read<W: Workflow>(
 {
     match read {
         Ok(events) => find_in_events::<W>(alloc, detail, events),
-        Err(fault) => unread(alloc, fault),
+        Err(fault) => unread_findings(alloc, fault),
     }
 }
 
@@ -182,7 +182,7 @@ fn find_in_read<W: Workflow>(
 /// if it can't be read.
 fn find_in_bytes<W: Workflow>(
     alloc: Global,
-    detail: Detail,
+    detail: DetailLevel,
     bytes: &[u8],
 ) -> Result<Findings, OutOfMemory>
     ensures found { IfOk result (λ found. AreFoundIn detail W.program bytes.now found.finding found.tasks.items) }
@@ -194,7 +194,7 @@ fn find_in_bytes<W: Workflow>(
 }
 
 /// Replays a history file with the code of `W`, and returns what it finds: the verdict of
-/// `wh_verdict::verdict`, the workflow type if it is not registered, and the command and the event
+/// `wh_tester::verdict`, the workflow type if it is not registered, and the command and the event
 /// that differ, if they do. These are the last pairing of the last task that `explain` returns. The
 /// file is parsed once, and its history is replayed at most once.
 ///
@@ -208,7 +208,7 @@ pub fn check_file<W: Workflow>(alloc: Global, bytes: &[u8]) -> Finding
     ensures found { (at : ℕ) (mismatch : Mismatch) → result.verdict ≡ Verdict.Faulty (Mismatched at mismatch)
         → IsSome result.difference }
 {
-    match find_in_bytes::<W>(alloc, Detail::Verdict, bytes) {
+    match find_in_bytes::<W>(alloc, DetailLevel::Verdict, bytes) {
         Ok(found) => found.finding,
         Err(OutOfMemory) => Finding {
             verdict: Verdict::OutOfMemory,
@@ -229,7 +229,7 @@ pub fn explain_read<W: Workflow>(
         → IfOk result (λ found. AreExplained W.program bytes found.0 found.1.items) }
     ensures memory { (bytes : List ℕ) → IsReadOf bytes read → IfErr result (λ _. length bytes ≤ longest) }
 {
-    let Findings { finding, tasks } = find_in_read::<W>(alloc, Detail::Steps, read)?;
+    let Findings { finding, tasks } = find_in_read::<W>(alloc, DetailLevel::Steps, read)?;
     Ok((finding, tasks))
 }
 
@@ -246,7 +246,7 @@ pub fn unknown_type<W: Workflow>(alloc: Global, track: &Track) -> Result<Option<
 }
 
 /// Returns the explanation of a file of this name, of which this was found.
-fn explained(name: String, found: Findings) -> Explanation
+fn explanation_of(name: String, found: Findings) -> Explanation
     ensures tasks { result.tasks ≡ found.tasks.items }
     ensures unknown { result.unknown ≡ found.finding.unknown }
     ensures name { result.line.name ≡ string_bytes name }
@@ -276,7 +276,7 @@ fn explained(name: String, found: Findings) -> Explanation
 /// not registered. The explanation then has that type. The file is parsed once, and its history is
 /// replayed at most once.
 ///
-/// The line is that of the report of replay: the name and the verdict of `wh_verdict::verdict`.
+/// The line is that of the report of replay: the name and the verdict of `wh_tester::verdict`.
 /// Returns `OutOfMemory` if an allocation was refused, but never for a file that is too long.
 pub fn explain<W: Workflow>(
     alloc: Global,
@@ -289,8 +289,8 @@ pub fn explain<W: Workflow>(
     ensures verdict { IfOk result (λ explained. IsVerdict W.program bytes.now explained.line.verdict) }
     ensures memory { IfErr result (λ _. length bytes.now ≤ longest) }
 {
-    match find_in_bytes::<W>(alloc, Detail::Steps, bytes) {
-        Ok(found) => Ok(explained(name, found)),
+    match find_in_bytes::<W>(alloc, DetailLevel::Steps, bytes) {
+        Ok(found) => Ok(explanation_of(name, found)),
         Err(full) => {
             drop(name);
             Err(full)

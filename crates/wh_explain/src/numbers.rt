@@ -8,7 +8,7 @@ ghost use Rattle.wh_explain.specs.Numbers.{is_answer, number_of, left_after};
 ghost use Rattle.wh_replay.specs.Activating.{IsWithin};
 ghost use Rattle.wh_explain.specs.Private.Stepping.{Keeps};
 
-use crate::explanation::Detail;
+use crate::explanation::DetailLevel;
 use std::alloc::Global;
 use wh_events::{Event, EventKind, EventNo, OutOfMemory};
 use wh_replay::Cut;
@@ -145,7 +145,7 @@ fn numbers_at(alloc: Global, cut: &Cut) -> Result<Vec<EventNo>, OutOfMemory>
 /// Lists the numbers of the events that give the jobs of a cut, if they are kept, and else nothing.
 pub(crate) fn numbers_kept(
     alloc: Global,
-    detail: Detail,
+    detail: DetailLevel,
     cut: &Cut,
 ) -> Result<Vec<EventNo>, OutOfMemory>
     requires { IsWithin cut.now }
@@ -153,8 +153,8 @@ pub(crate) fn numbers_kept(
         IfOk result (λ kept. Keeps detail kept.items numbers) }
 {
     match detail {
-        Detail::Verdict => Ok(Vec::new(alloc)),
-        Detail::Steps => numbers_at(alloc, cut),
+        DetailLevel::Verdict => Ok(Vec::new(alloc)),
+        DetailLevel::Steps => numbers_at(alloc, cut),
     }
 }
 

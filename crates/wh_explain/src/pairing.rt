@@ -57,7 +57,7 @@ fn pair(
 }
 
 /// Returns the pairing of an event for which no command is left.
-fn alone(alloc: Global, history: &[Event], event: &Event) -> Result<Pairing, OutOfMemory>
+fn unpaired_event(alloc: Global, history: &[Event], event: &Event) -> Result<Pairing, OutOfMemory>
     ensures { IfOk result (λ pairing. pairing ≡ CommandMissing (recorded_event history.now event.now)) }
 {
     Ok(Pairing::CommandMissing {
@@ -81,7 +81,7 @@ fn add_extra(left: &[Command], paired: &mut Vec<Pairing>) -> Result<(), OutOfMem
         OnOk result (paired.new.items ≡ paired.old.items ++ pairings history left.now []) }
 {
     match left.first() {
-        Some(command) => add(Pairing::extra(command), paired),
+        Some(command) => add(Pairing::of_command(command), paired),
         None => Ok(()),
     }
 }
@@ -111,7 +111,7 @@ fn add_pairs(
             continue;
         }
         if index == sent.len() {
-            return add(alone(alloc, history, event), paired);
+            return add(unpaired_event(alloc, history, event), paired);
         }
         let command = &sent[index];
         add(pair(alloc, history, command, event), paired)?;

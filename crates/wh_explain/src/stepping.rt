@@ -7,7 +7,7 @@ ghost use Rattle.wh_replay.specs.Views.{context_of, progress_of, turn_of};
 ghost use Rattle.wh_replay.specs.Activating.{Gives, IsWithin, IsOf};
 ghost use Rattle.wh_explain.specs.Private.Stepping.{AddsOneStep, AddsStep, Keeps, Ran, Shows};
 
-use crate::explanation::{Detail, Step};
+use crate::explanation::{DetailLevel, Step};
 use std::alloc::Global;
 use wh_events::OutOfMemory;
 use wh_match::ScriptFault;
@@ -124,7 +124,7 @@ fn add_step<W: Workflow>(
 /// the request for a version, if there is one.
 fn step_by<W: Workflow>(
     alloc: Global,
-    detail: Detail,
+    detail: DetailLevel,
     cut: &Cut,
     activation: &mut Activation<W>,
     job: Job,
@@ -142,8 +142,8 @@ fn step_by<W: Workflow>(
     ensures script { OnOk result (IsOf cut.now activation.new.script) }
 {
     match detail {
-        Detail::Verdict => take_job(alloc, cut, activation, job, meter),
-        Detail::Steps => add_step(alloc, cut, activation, job, meter, steps),
+        DetailLevel::Verdict => take_job(alloc, cut, activation, job, meter),
+        DetailLevel::Steps => add_step(alloc, cut, activation, job, meter, steps),
     }
 }
 
@@ -151,7 +151,7 @@ fn step_by<W: Workflow>(
 /// step with a fault. Returns the steps, if they are kept, and the fault.
 pub(crate) fn step_all<W: Workflow>(
     alloc: Global,
-    detail: Detail,
+    detail: DetailLevel,
     cut: &Cut,
     activation: &mut Activation<W>,
     jobs: Vec<Job>,

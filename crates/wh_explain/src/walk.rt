@@ -13,7 +13,7 @@ ghost use Rattle.wh_explain.specs.declared.explanation.Ending.TheVariants.{Refus
 ghost use Rattle.wh_replay.specs.declared.fault.Fault.TheVariants.{Workflow as WorkflowFaulty};
 ghost use Rattle.wh_explain.specs.Private.Tasks.{fault_of, if_some, is_passed, mismatch_at};
 
-use crate::explanation::{Detail, Ending, ExplainedTask, Pairing, Step};
+use crate::explanation::{DetailLevel, Ending, ExplainedTask, Pairing, Step};
 use crate::numbers::numbers_kept;
 use crate::pairing::{differs, pair_up};
 use crate::stepping::step_all;
@@ -27,7 +27,7 @@ use wh_workflow::{Command, Mismatch, Workflow, WorkflowFault};
 
 /// Why no task follows a task.
 #[derive(Drop)]
-pub(crate) struct Stop {
+pub(crate) struct StopReason {
     /// The fault of the task.
     pub(crate) fault: Fault,
     /// The command and the event that differ, if that is the fault.
@@ -36,11 +36,11 @@ pub(crate) struct Stop {
 
 /// How a task ends.
 #[derive(Drop)]
-pub(crate) struct TaskEnd {
+pub(crate) struct TaskConclusion {
     /// What is shown of the ending, if that is kept.
     pub(crate) ending: Option<Ending>,
     /// Why no task follows, if the task has a fault.
-    pub(crate) stop: Option<Stop>,
+    pub(crate) stop: Option<StopReason>,
 }
 
 /// What replay finds of a task.
@@ -49,28 +49,28 @@ pub(crate) struct TaskFinding<S> {
     /// The explained task, if that is kept.
     pub(crate) task: Option<ExplainedTask>,
     /// Why no task follows, if the task has a fault.
-    pub(crate) stop: Option<Stop>,
+    pub(crate) stop: Option<StopReason>,
     /// What the task leaves.
     pub(crate) left: ReplayState<S>,
 }
 
 /// What replay finds of the tasks of a history.
 #[derive(Drop)]
-pub(crate) struct Walk {
+pub(crate) struct ExplainedTasks {
     /// The explained tasks up to the first that has a fault, if they are kept.
     pub(crate) tasks: Vec<ExplainedTask>,
     /// Why the walk stopped, if a task has a fault.
-    pub(crate) stop: Option<Stop>,
+    pub(crate) stop: Option<StopReason>,
     /// The number of tasks, and whether the last is live, if no task has a fault.
     pub(crate) checked: Checked,
 }
 
 /// Returns the result of a walk in which a task has a fault.
-fn stopped(tasks: Vec<ExplainedTask>, stop: Stop) -> Walk
+fn stop_walk(tasks: Vec<ExplainedTask>, stop: StopReason) -> ExplainedTasks
     ensures tasks { result.tasks.items ≡ tasks.items }
     ensures stop { result.stop ≡ Some stop }
 {
-    Walk {
+    ExplainedTasks {
         tasks,
         stop: Some(stop),
         checked: Checked {
@@ -81,12 +81,12 @@ fn stopped(tasks: Vec<ExplainedTask>, stop: Stop) -> Walk
 }
 
 /// Returns the result of a walk in which no task has a fault.
-fn all_stepped(tasks: Vec<ExplainedTask>, count: u64, live: bool) -> Walk
+fn all_stepped(tasks: Vec<ExplainedTask>, count: u64, live: bool) -> ExplainedTasks
     ensures tasks { result.tasks.items ≡ tasks.items }
     ensures stop { result.stop ≡ None }
     ensures checked { result.checked ≡ record { tasks = count; live = live } }
 {
-    Walk {
+    ExplainedTasks {
         tasks,
         stop: None,
         checked: Checked { tasks: count, live },
@@ -116,12 +116,12 @@ fn last_differing(pairings: &[Pairing]) -> Result<Option<Pairing>, OutOfMemory>
 }
 
 /// Whether nothing is shown of a recorded task, and others may follow it.
-fn is_passed(detail: Detail, mismatch: &Option<Mismatch>) -> bool
+fn is_passed(detail: DetailLevel, mismatch: &Option<Mismatch>) -> bool
     ensures { result ≡ is_passed detail mismatch.now }
 {
     match detail {
-        Detail::Verdict => mismatch.is_none(),
-        Detail::Steps => false,
+        DetailLevel::Verdict => mismatch.is_none(),
+        DetailLevel::Steps => false,
     }
 }
 
@@ -130,7 +130,7 @@ fn stop_at(
     at: EventNo,
     mismatch: Option<Mismatch>,
     pairings: &[Pairing],
-) -> Result<Option<Stop>, OutOfMemory>
+) -> Result<Option<StopReason>, OutOfMemory>
     ensures fault { IfOk result (λ stop. fault_of stop ≡ mismatch_at at mismatch) }
     ensures difference { IfOk result (λ stop.
         difference_in stop ≡ if_some mismatch (if_differs (last_of pairings.now))) }
@@ -138,7 +138,7 @@ fn stop_at(
     let Some(mismatch) = mismatch else {
         return Ok(None);
     };
-    Ok(Some(Stop {
+    Ok(Some(StopReason {
         fault: Fault::Mismatch {
             at: at.get(),
             mismatch,
@@ -151,18 +151,18 @@ fn stop_at(
 /// differ, no task follows.
 fn end_recorded(
     alloc: Global,
-    detail: Detail,
+    detail: DetailLevel,
     cut: &Cut,
     sent: &[Command],
     span: Span,
-) -> Result<TaskEnd, OutOfMemory>
+) -> Result<TaskConclusion, OutOfMemory>
     requires { IsSpan cut.now.track.now span }
     ensures { let events = commanded (span_events cut.now.track.now span) in
         IfOk result (IsEnd detail cut.now.number cut.now.track.now sent.now None (Some events)) }
 {
     let mismatch = first_mismatch(cut, sent, span);
     if is_passed(detail, &mismatch) {
-        return Ok(TaskEnd {
+        return Ok(TaskConclusion {
             ending: None,
             stop: None,
         });
@@ -173,23 +173,23 @@ fn end_recorded(
     let ending = Some(Ending::Recorded {
         pairings: Items::new(pairings),
     });
-    Ok(TaskEnd { ending, stop })
+    Ok(TaskConclusion { ending, stop })
 }
 
 /// Returns how a task ends that sends these commands, which are valid.
 fn end_sent(
     alloc: Global,
-    detail: Detail,
+    detail: DetailLevel,
     cut: &Cut,
     sent: Vec<Command>,
-) -> Result<TaskEnd, OutOfMemory>
+) -> Result<TaskConclusion, OutOfMemory>
     requires within { IsWithin cut.now }
     ensures { IfOk result
         (IsEnd detail cut.now.number cut.now.track.now sent.items None (context_of cut.now).recorded) }
 {
     match cut.span {
         Some(span) => end_recorded(alloc, detail, cut, sent.as_slice(), span),
-        None => Ok(TaskEnd {
+        None => Ok(TaskConclusion {
             ending: Some(Ending::Live {
                 sent: Items::new(sent),
             }),
@@ -199,14 +199,14 @@ fn end_sent(
 }
 
 /// Returns how a task ends that has an invalid command.
-fn end_refused(at: EventNo, fault: WorkflowFault) -> TaskEnd
+fn end_refused(at: EventNo, fault: WorkflowFault) -> TaskConclusion
     ensures ending { result.ending ≡ Some Refused }
     ensures fault { fault_of result.stop ≡ Some (WorkflowFaulty at fault) }
     ensures difference { difference_in result.stop ≡ None }
 {
-    TaskEnd {
+    TaskConclusion {
         ending: Some(Ending::Refused),
-        stop: Some(Stop {
+        stop: Some(StopReason {
             fault: Fault::Workflow {
                 at: at.get(),
                 fault,
@@ -219,11 +219,11 @@ fn end_refused(at: EventNo, fault: WorkflowFault) -> TaskEnd
 /// Returns how a task ends that sends these commands. The last one has the fault, if there is one.
 fn end_with(
     alloc: Global,
-    detail: Detail,
+    detail: DetailLevel,
     cut: &Cut,
     sent: Vec<Command>,
     fault: Option<WorkflowFault>,
-) -> Result<TaskEnd, OutOfMemory>
+) -> Result<TaskConclusion, OutOfMemory>
     requires within { IsWithin cut.now }
     ensures { IfOk result
         (IsEnd detail cut.now.number cut.now.track.now sent.items fault (context_of cut.now).recorded) }
@@ -237,11 +237,11 @@ fn end_with(
 /// Returns how a task ends, and what it leaves.
 fn end_task<W: Workflow>(
     alloc: Global,
-    detail: Detail,
+    detail: DetailLevel,
     cut: &Cut,
     activation: Activation<W>,
     fault: Option<WorkflowFault>,
-) -> Result<(TaskEnd, ReplayState<W::State>), OutOfMemory>
+) -> Result<(TaskConclusion, ReplayState<W::State>), OutOfMemory>
     requires within { IsWithin cut.now }
     requires script { fault ≡ None → IsOf cut.now activation.script }
     ensures end { let context = context_of cut.now in
@@ -289,7 +289,7 @@ fn task_with(
 /// contract says what the task leaves only if it doesn't stop the walk.
 fn find_task<W: Workflow>(
     alloc: Global,
-    detail: Detail,
+    detail: DetailLevel,
     cut: &Cut,
     before: ReplayState<W::State>,
 ) -> Result<TaskFinding<W::State>, OutOfMemory>
@@ -305,7 +305,7 @@ fn find_task<W: Workflow>(
     let mut activation = Activation::<W>::new(alloc, cut, before);
     let (steps, fault) = step_all(alloc, detail, cut, &mut activation, jobs)?;
     let (end, left) = end_task::<W>(alloc, detail, cut, activation, fault)?;
-    let TaskEnd { ending, stop } = end;
+    let TaskConclusion { ending, stop } = end;
     let task = task_with(cut.number, given, steps, ending);
     Ok(TaskFinding { task, stop, left })
 }
@@ -324,7 +324,7 @@ fn add_task(tasks: &mut Vec<ExplainedTask>, task: Option<ExplainedTask>) -> Resu
 #[derive(Drop)]
 struct Taken<S> {
     /// Why no task follows, if the task has a fault.
-    stop: Option<Stop>,
+    stop: Option<StopReason>,
     /// What the task leaves.
     left: ReplayState<S>,
 }
@@ -332,7 +332,7 @@ struct Taken<S> {
 /// Replays the task of a cut, and adds it to those before it, if it is kept.
 fn take_task<W: Workflow>(
     alloc: Global,
-    detail: Detail,
+    detail: DetailLevel,
     cut: &Cut,
     before: ReplayState<W::State>,
     tasks: &mut Vec<ExplainedTask>,
@@ -358,10 +358,10 @@ fn take_task<W: Workflow>(
 /// Goes over the tasks of a history in their order, up to the first that has a fault.
 pub(crate) fn walk_tasks<W: Workflow>(
     alloc: Global,
-    detail: Detail,
+    detail: DetailLevel,
     track: &Track,
     mut left: ReplayState<W::State>,
-) -> Result<Walk, OutOfMemory>
+) -> Result<ExplainedTasks, OutOfMemory>
     ensures { IfOk result (IsWalk detail W.program track.now left.state left.versions) }
 {
     // Made for the proof: its contract says that the events are in place.
@@ -374,7 +374,7 @@ pub(crate) fn walk_tasks<W: Workflow>(
         let taken = take_task::<W>(alloc, detail, &cut, left, &mut tasks)?;
         left = taken.left;
         if let Some(stop) = taken.stop {
-            return Ok(stopped(tasks, stop));
+            return Ok(stop_walk(tasks, stop));
         }
         count += 1;
         live |= cut.span.is_none();

@@ -4,8 +4,8 @@ use Rattle.std.specs.Io.KnownBytes.{Appends}
 use Rattle.wh_json.specs.Events.{history}
 use Rattle.wh_workflow.specs.Law.{Program}
 use Rattle.wh_tester.specs.Report.{all_good}
-use Rattle.wh_verdict.specs.Verdicts.{IsVerdict}
-use Rattle.wh_verdict.specs.declared.line.Line.{Line}
+use Rattle.wh_tester.specs.Verdicts.{IsVerdict}
+use Rattle.wh_tester.specs.declared.line.Line.{Line}
 use Rattle.wh_explain.specs.Explaining.{AreTasksIn, unknown_in}
 use Rattle.wh_explain_report.specs.Json.{json_explanation}
 use Rattle.wh_explain_report.specs.Explanations.{explanation_text}

@@ -2,9 +2,8 @@
 
 ghost use Rattle.std.specs.Prelude.{◌≡◌, ◌≢◌, ◌∷◌, [], Err, IfErr, IfOk, OnOk, string_bytes};
 ghost use Rattle.std.specs.Io.KnownBytes.{Appends};
-ghost use Rattle.wh_explain_report.specs.Explained.{IsExplained, IsViewedIf, explained_as, explanation_as};
-ghost use Rattle.wh_explain_report.specs.Explained.{status_of, view_as, viewed_as};
-ghost use Rattle.wh_verdict.specs.declared.line.Line.{Line as LineView};
+ghost use Rattle.wh_explain_report.specs.Explained.{IsExplained, IsViewedIf, explained_as, explanation_as, status_of, view_as, viewed_as};
+ghost use Rattle.wh_tester.specs.declared.line.Line.{Line as LineView};
 
 use crate::json_lines::write_json_explanation;
 use crate::showing::write_explanation;
@@ -15,8 +14,7 @@ use wh_console::Format;
 use wh_events::Text;
 use wh_explain::{Explanation, explain};
 use wh_file_faults::CommandFault;
-use wh_tester::is_good;
-use wh_verdict::Line;
+use wh_tester::{Line, is_good};
 use wh_view::{View, view_of};
 use wh_view_report::{Selection, write_json_view, write_view};
 use wh_workflow::Workflow;
@@ -54,7 +52,11 @@ pub fn write_view_as<O: Write>(
 }
 
 /// What is recorded in a file, if its workflow type is not registered.
-fn viewed(alloc: Global, unknown: &Option<Text>, bytes: &[u8]) -> Result<Option<View>, CommandFault>
+fn view_unregistered(
+    alloc: Global,
+    unknown: &Option<Text>,
+    bytes: &[u8],
+) -> Result<Option<View>, CommandFault>
     ensures viewed { IfOk result (IsViewedIf unknown.now bytes.now) }
     ensures memory { IfErr result (λ fault. fault ≡ CommandFault.OutOfMemory) }
 {
@@ -138,7 +140,7 @@ pub fn explain_file<W: Workflow, O: Write>(
     let Ok(explanation) = explain::<W>(alloc, name, bytes) else {
         return Err(CommandFault::OutOfMemory);
     };
-    let view = viewed(alloc, &explanation.unknown, bytes)?;
+    let view = view_unregistered(alloc, &explanation.unknown, bytes)?;
     write_explained(explanation, view, selection, format, writer)
 }
 

@@ -65,9 +65,9 @@ fn write_commands<O: Write>(commands: &[Command], writer: &mut O) -> io::Result<
 
 /// The number of the event of a job, if there is one, as a further member of an object.
 #[derive(Clone, Copy)]
-struct NumberMember(Option<EventNo>);
+struct JobEventMember(Option<EventNo>);
 
-impl fmt::Display for NumberMember {
+impl fmt::Display for JobEventMember {
     ghost output = { λ n. Some (number_member n.0) };
 
     fn fmt<W: fmt::Write>(&self, f: &mut fmt::Formatter<W>) -> fmt::Result {
@@ -86,7 +86,7 @@ fn write_told<O: Write>(number: Option<EventNo>, job: &Job, writer: &mut O) -> i
     ensures { OnOk result (Appends (O.contents writer.old) (O.contents writer.new) (told_object number job.now)) }
 {
     let job = JobJson(job);
-    let number = NumberMember(number);
+    let number = JobEventMember(number);
     write!(writer, "{{\"told\":{job}{number}}}\n")
 }
 

@@ -34,7 +34,7 @@ fn around(index: usize, tasks: &[ExplainedTask]) -> &[ExplainedTask]
 }
 
 /// Returns the tasks that are selected.
-pub(crate) fn selected(selection: Selection, tasks: &[ExplainedTask]) -> &[ExplainedTask]
+pub(crate) fn select_tasks(selection: Selection, tasks: &[ExplainedTask]) -> &[ExplainedTask]
     ensures { result.now ≡ selections.selected selection tasks.now }
 {
     match selection {
@@ -52,7 +52,7 @@ pub(crate) fn selected_or_all(
     ensures { result.now ≡ selections.selected_or_all selection tasks.now }
 {
     match selection {
-        Some(selection) => selected(selection, tasks),
+        Some(selection) => select_tasks(selection, tasks),
         None => tasks,
     }
 }

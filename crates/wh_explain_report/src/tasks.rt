@@ -9,7 +9,7 @@ ghost use Rattle.wh_explain_report.specs.TaskTexts as texts;
 ghost use Rattle.wh_explain_report.specs.Texts.{task_text};
 
 use crate::alike::alike_tasks;
-use crate::selection::{left_count, selected, skipped_count};
+use crate::selection::{left_count, select_tasks, skipped_count};
 use crate::sharing::shares;
 use crate::showing::{write_task, write_tasks};
 use std::io;
@@ -39,7 +39,7 @@ fn write_selected<O: Write>(
     ensures { OnOk result (Appends (O.contents writer.old) (O.contents writer.new)
         (texts.selected_text selection tasks.now)) }
 {
-    let chosen = selected(selection, tasks);
+    let chosen = select_tasks(selection, tasks);
     write_left(tasks.len().saturating_sub(chosen.len()), writer)?;
     write_tasks(chosen, writer)
 }

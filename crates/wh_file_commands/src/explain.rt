@@ -1,58 +1,37 @@
 //! The command `explain`.
 
-ghost use Rattle.std.specs.Prelude.{◌≡◌, IfErr, IfOk, OnOk, string_bytes};
-ghost use Rattle.wh_console.specs.Consoles.{IsQuiet};
-ghost use Rattle.wh_diagnostics.specs.Failures.{IsReportFailure};
-ghost use Rattle.wh_file_commands.specs.Explanations.{HasExplained, HasExplainedInput, HasExplainedPath};
-ghost use Rattle.wh_file_commands.specs.Explanations.{HasReportedFault};
-ghost use Rattle.wh_file_commands.specs.Private.Refusals.{IsWriteFailure};
-ghost use Rattle.wh_file_commands.specs.Refusals.{IsUnreportedInput, IsUnreportedPath};
-ghost use Rattle.wh_file_faults.specs.Faults.{IsFaultOf, IsUnreadCause};
+ghost use Rattle.std.specs.Prelude.{◌≡◌, IfErr, IfOk, string_bytes};
+ghost use Rattle.wh_console.specs.Consoles.{IsQuiet, Reported};
+ghost use Rattle.wh_diagnostics.specs.Diagnostics.{detail_lines};
+ghost use Rattle.wh_diagnostics.specs.Failures.{IsWriteFailure};
+ghost use Rattle.wh_diagnostics.specs.Files.{HasCarriedOut, IsNotCarriedOut};
+ghost use Rattle.wh_file_commands.specs.Explanations.{HasExplained};
 ghost use Rattle.wh_explain_report.specs.Explained.{IsExplained};
 
 use std::alloc::Global;
+use std::io;
 use std::io::Write;
-use std::rt::Runtime;
 use wh_console::{Console, Format, Outlet};
-use wh_diagnostics::{Diagnostic, Failure, flushed};
-use wh_events::{OutOfMemory, Text};
+use wh_diagnostics::{Diagnostic, Failure, InputReader, file_at, flush_answer};
+use wh_events::Text;
 use wh_explain_report::{explain_file, line_status};
-use wh_file_faults::{CommandFault, FileFault, unread_cause};
-use wh_files::Input;
-use wh_inputs::{InputReader, file_from, input_of};
-use wh_verdict::Line;
+use wh_file_faults::{CommandFault, FaultDetail, unread_detail};
+use wh_tester::Line;
 use wh_view_report::Selection;
 use wh_workflow::Workflow;
 
-/// Where the file of a line is no JSON, if that is its verdict.
-fn unread_fault(alloc: Global, line: Line, bytes: &[u8]) -> Result<Option<FileFault>, OutOfMemory>
-    ensures { IfOk result (IsFaultOf (IsUnreadCause line.verdict) line.name bytes.now) }
-{
-    let Line { name, verdict } = line;
-    let cause = unread_cause(alloc, &verdict, bytes)?;
-    match cause {
-        Some(cause) => Ok(Some(FileFault { name, cause })),
-        None => Ok(None),
-    }
-}
-
-/// Reports where the file of a line is no JSON, if that is its verdict.
-fn report_if_bad<O: Write, E: Write>(
-    alloc: Global,
-    line: Line,
-    bytes: &[u8],
+/// Reports where a file is no JSON, if it is none.
+fn report_detail<O: Write, E: Write>(
+    file: Text,
+    detail: Option<FaultDetail>,
     console: &mut Console<'_, O, E>,
-) -> Result<(), Failure>
-    ensures fault { OnOk result (HasReportedFault line bytes.now console.old console.new) }
-    ensures quiet { IfErr result (λ _. IsQuiet console.old console.new) }
-    ensures memory { IfErr result (λ failure. failure ≡ Failure.OutOfMemory) }
+)
+    ensures { Reported console.old console.new (detail_lines file detail) }
 {
-    match unread_fault(alloc, line, bytes) {
-        Ok(Some(fault)) => console.report(Diagnostic::BadJson { fault }),
-        Ok(None) => {}
-        Err(OutOfMemory) => return Err(Failure::OutOfMemory),
+    match detail {
+        Some(detail) => console.report(Diagnostic::BadJson { file, detail }),
+        None => {}
     }
-    Ok(())
 }
 
 /// Writes the explanation of a file, and returns its line.
@@ -76,47 +55,31 @@ fn print_explanation<W: Workflow, O: Write, E: Write>(
 fn explain<W: Workflow, O: Write, E: Write>(
     alloc: Global,
     name: String,
-    bytes: &[u8],
+    bytes: Vec<u8>,
     selection: Option<Selection>,
     format: Format,
     console: &mut Console<'_, O, E>,
 ) -> Result<u8, Failure>
     ensures explained { IfOk result
-        (HasExplained W.program (string_bytes name) bytes.now selection format console.old console.new) }
+        (HasExplained W.program selection format (name, bytes) console.old console.new) }
     ensures quiet { IfErr result (λ _. IsQuiet console.old console.new) }
-    ensures unreported { IfErr result IsWriteFailure }
+    ensures why { IfErr result IsWriteFailure }
 {
-    let line = match print_explanation::<W, O, E>(alloc, name, bytes, selection, format, console) {
+    let seen = bytes.as_slice();
+    let line = match print_explanation::<W, O, E>(alloc, name, seen, selection, format, console) {
         Ok(line) => line,
-        Err(fault) => return flushed(Err(fault), console),
+        Err(fault) => return flush_answer(Err(fault), console),
     };
-    let status = flushed(Ok(line_status(&line)), console)?;
-    report_if_bad(alloc, line, bytes, console)?;
+    let status = flush_answer(Ok(line_status(&line)), console)?;
+    let Line {
+        name: file,
+        verdict,
+    } = line;
+    let Ok(detail) = unread_detail(alloc, &verdict, seen) else {
+        return Err(Failure::OutOfMemory);
+    };
+    report_detail(file, detail, console);
     Ok(status)
-}
-
-/// Reads an input, and explains it.
-fn explain_input<W: Workflow, R: InputReader + AllocGlobal, O: Write, E: Write>(
-    rt: &R,
-    input: Input,
-    selection: Option<Selection>,
-    format: Format,
-    console: &mut Console<'_, O, E>,
-) -> Result<u8, Failure>
-    ensures explained { IfOk result
-        (HasExplainedInput R.gives W.program input selection format console.old console.new) }
-    ensures quiet { IfErr result (λ _. IsQuiet console.old console.new) }
-    ensures unreported { IfErr result (IsUnreportedInput R.gives input) }
-{
-    let (name, bytes) = file_from(rt, input)?;
-    explain::<W, O, E>(
-        rt.alloc(),
-        name,
-        bytes.as_slice(),
-        selection,
-        format,
-        console,
-    )
 }
 
 /// Explains the history at a path: the tasks that are selected, or those that matter, and what is
@@ -125,18 +88,18 @@ fn explain_input<W: Workflow, R: InputReader + AllocGlobal, O: Write, E: Write>(
 ///
 /// `Unreadable` if the history can't be read, and `Output` if the explanation can't be written.
 /// Other than `OutOfMemory` there is no failure but these. After a failure nothing was reported.
-pub fn explain_path<W: Workflow, R: Runtime + AllocGlobal, O: Write, E: Write>(
+pub fn explain_path<W: Workflow, R: InputReader + io::Input + AllocGlobal, O: Write, E: Write>(
     rt: &R,
     path: Text,
     selection: Option<Selection>,
     format: Format,
     console: &mut Console<'_, O, E>,
 ) -> Result<u8, Failure>
-    ensures explained { IfOk result (HasExplainedPath W.program path selection format console.old console.new) }
+    ensures explained { IfOk result
+        (HasCarriedOut R.gives (HasExplained W.program selection format) path console.old console.new) }
     ensures quiet { IfErr result (λ _. IsQuiet console.old console.new) }
-    ensures why { IfErr result IsReportFailure }
-    ensures unreported { IfErr result (IsUnreportedPath path) }
+    ensures why { IfErr result (IsNotCarriedOut R.gives (λ file. IsWriteFailure) path) }
 {
-    let input = input_of(rt, path)?;
-    explain_input::<W, R, O, E>(rt, input, selection, format, console)
+    let (name, bytes) = file_at(rt, path)?;
+    explain::<W, O, E>(rt.alloc(), name, bytes, selection, format, console)
 }

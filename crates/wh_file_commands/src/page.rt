@@ -3,23 +3,23 @@
 ghost use Rattle.std.specs.Prelude.{◌≡◌, ◌≢◌, ◌↔◌, Err, IfErr, IfOk, IsOk, string_bytes};
 ghost use Rattle.std.specs.Io.KnownBytes.{Keeps};
 ghost use Rattle.wh_console.specs.Consoles.{IsQuiet};
-ghost use Rattle.wh_file_commands.specs.Pages.{HasPaged, HasPagedInput, HasPagedPath};
+ghost use Rattle.wh_diagnostics.specs.Files.{HasCarriedOut, IsNotCarriedOut};
+ghost use Rattle.wh_diagnostics.specs.Printing.{IsRefused};
+ghost use Rattle.wh_file_commands.specs.Pages.{HasPaged};
 ghost use Rattle.wh_file_commands.specs.Private.Refusals.{IsUnpaged};
-ghost use Rattle.wh_file_commands.specs.Refusals.{IsRefused, IsUnshown, IsUnshownInput, IsUnshownPath};
+ghost use Rattle.wh_file_commands.specs.Refusals.{IsUnshown};
 ghost use Rattle.wh_file_page.specs.Pages.{IsPaged};
 ghost use Rattle.wh_json.specs.declared.fault.ReadFault.{ReadFault};
 ghost use Rattle.wh_view.specs.Views.{members_of};
 
-use crate::view::unviewed;
+use crate::view::view_failure;
 use std::alloc::Global;
+use std::io;
 use std::io::Write;
-use std::rt::Runtime;
 use wh_console::{Console, Outlet};
-use wh_diagnostics::{Failure, flushed};
+use wh_diagnostics::{Failure, InputReader, file_at, flush_answer};
 use wh_events::Text;
 use wh_file_page::{PageFault, page_command};
-use wh_files::Input;
-use wh_inputs::{InputReader, file_from, input_of};
 use wh_workflow::Workflow;
 
 /// Writes the page of a file, and returns its status.
@@ -48,7 +48,7 @@ fn failure_of(alloc: Global, name: String, fault: PageFault, bytes: &[u8]) -> Fa
     ensures output { (result ≡ Failure.Output) ↔ (fault ≡ PageFault.Output) }
 {
     match fault {
-        PageFault::Unviewed(fault) => unviewed(alloc, Text::new(name), fault, bytes),
+        PageFault::Unviewed(fault) => view_failure(alloc, Text::new(name), fault, bytes),
         PageFault::Output => Failure::Output,
         PageFault::OutOfMemory => Failure::OutOfMemory,
     }
@@ -58,34 +58,19 @@ fn failure_of(alloc: Global, name: String, fault: PageFault, bytes: &[u8]) -> Fa
 fn page<W: Workflow, O: Write, E: Write>(
     alloc: Global,
     name: String,
-    bytes: &[u8],
+    bytes: Vec<u8>,
     only_recorded: bool,
     console: &mut Console<'_, O, E>,
 ) -> Result<u8, Failure>
-    ensures paged { IfOk result
-        (HasPaged W.program only_recorded (string_bytes name) bytes.now console.old console.new) }
+    ensures paged { IfOk result (HasPaged W.program only_recorded (name, bytes) console.old console.new) }
     ensures refused { IfErr result (IsRefused console.old console.new) }
-    ensures why { IfErr result (IsUnshown (string_bytes name) bytes.now) }
+    ensures why { IfErr result (IsUnshown (name, bytes)) }
 {
-    match print_page::<W, O, E>(alloc, name.as_str(), bytes, only_recorded, console) {
-        Ok(status) => flushed(Ok(status), console),
-        Err(fault) => Err(failure_of(alloc, name, fault, bytes)),
+    let seen = bytes.as_slice();
+    match print_page::<W, O, E>(alloc, name.as_str(), seen, only_recorded, console) {
+        Ok(status) => flush_answer(Ok(status), console),
+        Err(fault) => Err(failure_of(alloc, name, fault, seen)),
     }
-}
-
-/// Reads an input, and writes its page.
-fn page_input<W: Workflow, R: InputReader + AllocGlobal, O: Write, E: Write>(
-    rt: &R,
-    input: Input,
-    only_recorded: bool,
-    console: &mut Console<'_, O, E>,
-) -> Result<u8, Failure>
-    ensures paged { IfOk result (HasPagedInput R.gives W.program only_recorded input console.old console.new) }
-    ensures refused { IfErr result (IsRefused console.old console.new) }
-    ensures why { IfErr result (IsUnshownInput R.gives input) }
-{
-    let (name, bytes) = file_from(rt, input)?;
-    page::<W, O, E>(rt.alloc(), name, bytes.as_slice(), only_recorded, console)
 }
 
 /// Writes a page of the history at a path as HTML: with the verdict of its replay, whose status it
@@ -96,16 +81,17 @@ fn page_input<W: Workflow, R: InputReader + AllocGlobal, O: Write, E: Write>(
 /// of events for another reason. `Output` if it has one, and the page can't be written. Other than
 /// `OutOfMemory` there is no failure but these. After a failure nothing was reported, and nothing
 /// was written unless it is `Output`.
-pub fn page_path<W: Workflow, R: Runtime + AllocGlobal, O: Write, E: Write>(
+pub fn page_path<W: Workflow, R: InputReader + io::Input + AllocGlobal, O: Write, E: Write>(
     rt: &R,
     path: Text,
     only_recorded: bool,
     console: &mut Console<'_, O, E>,
 ) -> Result<u8, Failure>
-    ensures paged { IfOk result (HasPagedPath W.program only_recorded path console.old console.new) }
+    ensures paged { IfOk result
+        (HasCarriedOut R.gives (HasPaged W.program only_recorded) path console.old console.new) }
     ensures refused { IfErr result (IsRefused console.old console.new) }
-    ensures why { IfErr result (IsUnshownPath path) }
+    ensures why { IfErr result (IsNotCarriedOut R.gives IsUnshown path) }
 {
-    let input = input_of(rt, path)?;
-    page_input::<W, R, O, E>(rt, input, only_recorded, console)
+    let (name, bytes) = file_at(rt, path)?;
+    page::<W, O, E>(rt.alloc(), name, bytes, only_recorded, console)
 }

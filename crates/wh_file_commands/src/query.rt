@@ -2,25 +2,25 @@
 
 ghost use Rattle.std.specs.Prelude.{◌≡◌, Err, IfErr, IfOk, Some};
 ghost use Rattle.wh_console.specs.Consoles.{IsQuiet, Printed};
-ghost use Rattle.wh_file_commands.specs.Private.Refusals.{IsUnasked, IsWriteFailure};
-ghost use Rattle.wh_file_commands.specs.Queries.{HasQueried, HasQueriedInput, HasQueriedPath};
-ghost use Rattle.wh_file_commands.specs.Refusals.{IsRefused, IsUnqueriedPath, IsUnreportedInput};
+ghost use Rattle.wh_diagnostics.specs.Failures.{IsWriteFailure};
+ghost use Rattle.wh_diagnostics.specs.Files.{HasCarriedOut};
+ghost use Rattle.wh_diagnostics.specs.Printing.{IsRefused};
+ghost use Rattle.wh_file_commands.specs.Queries.{HasQueried, IsUnasked, IsUnqueried};
 ghost use Rattle.wh_query_report.specs.Inputs.{query_of};
 ghost use Rattle.wh_query_report.specs.Queried.{IsQueried};
 ghost use Rattle.wh_query_report.specs.Texts.{queried_as};
 
 use std::alloc::Global;
+use std::io;
 use std::io::Write;
-use std::rt::Runtime;
 use wh_console::{Console, Format, Outlet};
-use wh_diagnostics::{Diagnostic, Failure, flushed};
+use wh_diagnostics::{
+    Diagnostic, Failure, InputReader, KnownTypes, file_at, flush_answer, lacks_code,
+};
 use wh_events::Text;
 use wh_file_faults::CommandFault;
-use wh_files::Input;
-use wh_inputs::{InputReader, file_from, input_of};
-use wh_known_types::{KnownTypes, lacks_code};
 use wh_query_report::{Queried, query_command, query_of};
-use wh_queryable::{Query, Queryable};
+use wh_workflow::{Query, Queryable};
 
 /// Queries a file, and writes what came of that.
 fn print_query<W: Queryable, O: Write, E: Write>(
@@ -48,16 +48,16 @@ fn query_file<W: Queryable, O: Write, E: Write>(
     types: &str,
     console: &mut Console<'_, O, E>,
 ) -> Result<u8, Failure>
-    ensures queried { IfOk result
-        (HasQueried W.program W.queries types.now file query.now format console.old console.new) }
+    ensures queried { IfOk result (HasQueried W.program W.queries types.now (Some query.now) format file
+        console.old console.new) }
     ensures refused { IfErr result (IsRefused console.old console.new) }
-    ensures unreported { IfErr result IsWriteFailure }
+    ensures why { IfErr result IsWriteFailure }
 {
     let queried = match print_query::<W, O, E>(alloc, file, query, format, console) {
         Ok(queried) => queried,
-        Err(fault) => return flushed(Err(fault), console),
+        Err(fault) => return flush_answer(Err(fault), console),
     };
-    let status = match flushed(Ok(wh_query_report::status_of(&queried)), console) {
+    let status = match flush_answer(Ok(wh_query_report::status_of(&queried)), console) {
         Ok(status) => status,
         Err(failure) => {
             drop(queried);
@@ -66,28 +66,10 @@ fn query_file<W: Queryable, O: Write, E: Write>(
     };
     let Queried { own, given } = queried;
     drop(given);
-    let lacking = lacks_code(&own.cause);
+    let lacking = lacks_code(&own.detail);
     console.report(Diagnostic::Queried { own });
     console.report(KnownTypes { types, lacking });
     Ok(status)
-}
-
-/// Reads an input, and queries it.
-fn query_input<W: Queryable, R: InputReader + AllocGlobal, O: Write, E: Write>(
-    rt: &R,
-    input: Input,
-    query: &Query,
-    format: Format,
-    types: &str,
-    console: &mut Console<'_, O, E>,
-) -> Result<u8, Failure>
-    ensures queried { IfOk result (HasQueriedInput R.gives W.program W.queries types.now input query.now format
-        console.old console.new) }
-    ensures refused { IfErr result (IsRefused console.old console.new) }
-    ensures unreported { IfErr result (IsUnreportedInput R.gives input) }
-{
-    let file = file_from(rt, input)?;
-    query_file::<W, O, E>(rt.alloc(), file, query, format, types, console)
 }
 
 /// The query that words of the command line ask for.
@@ -109,7 +91,7 @@ fn query_asked(alloc: Global, query_type: Text, words: Vec<Text>) -> Result<Quer
 /// `BadInput` if a word is no JSON. `Unreadable` if the history can't be read, and `Output` if the
 /// answer can't be written. Other than `OutOfMemory` there is no failure but these. After a failure
 /// nothing was reported, and nothing was written unless it is `Output`.
-pub fn query_path<W: Queryable, R: Runtime + AllocGlobal, O: Write, E: Write>(
+pub fn query_path<W: Queryable, R: InputReader + io::Input + AllocGlobal, O: Write, E: Write>(
     rt: &R,
     path: Text,
     query_type: Text,
@@ -118,12 +100,12 @@ pub fn query_path<W: Queryable, R: Runtime + AllocGlobal, O: Write, E: Write>(
     types: &str,
     console: &mut Console<'_, O, E>,
 ) -> Result<u8, Failure>
-    ensures queried { IfOk result (HasQueriedPath W.program W.queries types.now path query_type words.items format
-        console.old console.new) }
+    ensures queried { let asked = query_of query_type words.items in IfOk result (HasCarriedOut R.gives
+        (HasQueried W.program W.queries types.now asked format) path console.old console.new) }
     ensures refused { IfErr result (IsRefused console.old console.new) }
-    ensures why { IfErr result (IsUnqueriedPath (query_of query_type words.items) path) }
+    ensures why { IfErr result (IsUnqueried R.gives (query_of query_type words.items) path) }
 {
     let query = query_asked(rt.alloc(), query_type, words)?;
-    let input = input_of(rt, path)?;
-    query_input::<W, R, O, E>(rt, input, &query, format, types, console)
+    let file = file_at(rt, path)?;
+    query_file::<W, O, E>(rt.alloc(), file, &query, format, types, console)
 }

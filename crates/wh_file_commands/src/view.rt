@@ -1,22 +1,22 @@
 //! The command `explain --recorded`.
 
-ghost use Rattle.std.specs.Prelude.{◌≡◌, IfErr, IfOk, OnOk, string_bytes};
+ghost use Rattle.std.specs.Prelude.{◌≡◌, IfErr, IfOk, OnOk};
 ghost use Rattle.wh_console.specs.Consoles.{IsQuiet, Printed};
+ghost use Rattle.wh_diagnostics.specs.Files.{HasCarriedOut, IsNotCarriedOut};
+ghost use Rattle.wh_diagnostics.specs.Printing.{IsRefused};
 ghost use Rattle.wh_file_commands.specs.Private.Refusals.{IsUnviewed, IsUnviewedJson};
-ghost use Rattle.wh_file_commands.specs.Refusals.{IsRefused, IsUnshown, IsUnshownInput, IsUnshownPath};
-ghost use Rattle.wh_file_commands.specs.Views.{HasViewed, HasViewedInput, HasViewedPath};
+ghost use Rattle.wh_file_commands.specs.Refusals.{IsUnshown};
+ghost use Rattle.wh_file_commands.specs.Views.{HasViewed};
 ghost use Rattle.wh_explain_report.specs.Explained.{view_as};
 
 use std::alloc::Global;
+use std::io;
 use std::io::Write;
-use std::rt::Runtime;
 use wh_console::{Console, Format};
-use wh_diagnostics::{Failure, flushed};
+use wh_diagnostics::{Failure, InputReader, file_at, flush_answer};
 use wh_events::{OutOfMemory, Text};
 use wh_explain_report::write_view_as;
-use wh_file_faults::{CommandFault, json_fault};
-use wh_files::Input;
-use wh_inputs::{InputReader, file_from, input_of};
+use wh_file_faults::{CommandFault, json_detail};
 use wh_json::ReadFault;
 use wh_view::{View, view_of};
 use wh_view_report::Selection;
@@ -25,8 +25,8 @@ use wh_view_report::Selection;
 fn not_json(alloc: Global, file: Text, bytes: &[u8]) -> Failure
     ensures { IsUnviewedJson file bytes.now result }
 {
-    match json_fault(alloc, file.get(), bytes) {
-        Ok(Some(fault)) => Failure::NotJson { fault },
+    match json_detail(alloc, bytes) {
+        Ok(Some(detail)) => Failure::NotJson { file, detail },
         Ok(None) => Failure::NotViewed {
             file,
             fault: ReadFault::BadJson,
@@ -36,7 +36,7 @@ fn not_json(alloc: Global, file: Text, bytes: &[u8]) -> Failure
 }
 
 /// Why the events in a file can't be shown.
-pub(crate) fn unviewed(alloc: Global, file: Text, fault: ReadFault, bytes: &[u8]) -> Failure
+pub(crate) fn view_failure(alloc: Global, file: Text, fault: ReadFault, bytes: &[u8]) -> Failure
     ensures { IsUnviewed file bytes.now fault result }
 {
     match fault {
@@ -68,44 +68,22 @@ fn print_view<O: Write, E: Write>(
 fn view<O: Write, E: Write>(
     alloc: Global,
     name: String,
-    bytes: &[u8],
+    bytes: Vec<u8>,
     selection: Selection,
     format: Format,
     console: &mut Console<'_, O, E>,
 ) -> Result<u8, Failure>
-    ensures viewed { IfOk result (HasViewed bytes.now selection format console.old console.new) }
+    ensures viewed { IfOk result (HasViewed selection format (name, bytes) console.old console.new) }
     ensures refused { IfErr result (IsRefused console.old console.new) }
-    ensures why { IfErr result (IsUnshown (string_bytes name) bytes.now) }
+    ensures why { IfErr result (IsUnshown (name, bytes)) }
 {
-    let view = match view_of(alloc, bytes) {
+    let seen = bytes.as_slice();
+    let view = match view_of(alloc, seen) {
         Ok(view) => view,
-        Err(fault) => return Err(unviewed(alloc, Text::new(name), fault, bytes)),
+        Err(fault) => return Err(view_failure(alloc, Text::new(name), fault, seen)),
     };
     let answer = print_view(&view, selection, format, console);
-    flushed(answer, console)
-}
-
-/// Reads an input, and shows what is recorded in it.
-fn view_input<R: InputReader + AllocGlobal, O: Write, E: Write>(
-    rt: &R,
-    input: Input,
-    selection: Selection,
-    format: Format,
-    console: &mut Console<'_, O, E>,
-) -> Result<u8, Failure>
-    ensures viewed { IfOk result (HasViewedInput R.gives input selection format console.old console.new) }
-    ensures refused { IfErr result (IsRefused console.old console.new) }
-    ensures why { IfErr result (IsUnshownInput R.gives input) }
-{
-    let (name, bytes) = file_from(rt, input)?;
-    view(
-        rt.alloc(),
-        name,
-        bytes.as_slice(),
-        selection,
-        format,
-        console,
-    )
+    flush_answer(answer, console)
 }
 
 /// Shows what is recorded in the history at a path: the tasks that are selected, with nothing
@@ -115,17 +93,18 @@ fn view_input<R: InputReader + AllocGlobal, O: Write, E: Write>(
 /// of events for another reason. `Output` if it has one, and the text can't be written. Other than
 /// `OutOfMemory` there is no failure but these. After a failure nothing was reported, and nothing
 /// was written unless it is `Output`.
-pub fn view_path<R: Runtime + AllocGlobal, O: Write, E: Write>(
+pub fn view_path<R: InputReader + io::Input + AllocGlobal, O: Write, E: Write>(
     rt: &R,
     path: Text,
     selection: Selection,
     format: Format,
     console: &mut Console<'_, O, E>,
 ) -> Result<u8, Failure>
-    ensures viewed { IfOk result (HasViewedPath path selection format console.old console.new) }
+    ensures viewed { IfOk result
+        (HasCarriedOut R.gives (HasViewed selection format) path console.old console.new) }
     ensures refused { IfErr result (IsRefused console.old console.new) }
-    ensures why { IfErr result (IsUnshownPath path) }
+    ensures why { IfErr result (IsNotCarriedOut R.gives IsUnshown path) }
 {
-    let input = input_of(rt, path)?;
-    view_input::<R, O, E>(rt, input, selection, format, console)
+    let (name, bytes) = file_at(rt, path)?;
+    view(rt.alloc(), name, bytes, selection, format, console)
 }

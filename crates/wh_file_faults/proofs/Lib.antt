@@ -1,4 +1,4 @@
 pub mod Collected
+pub mod Details
 pub mod Documents
-pub mod Faults
 pub mod Unread

@@ -1,3 +1,6 @@
 pub mod Faults
 pub mod Made
-pub mod Texts
+pub mod Fields
+pub mod Places
+pub mod Details
+pub mod DetailTexts

@@ -1,13 +1,16 @@
-//! What is made of files in threads, and the faults that are reported of them: which are not JSON,
-//! and which workflow types are not registered.
+//! What the line of a file's fault does not name: where it is not JSON, the workflow type that is not
+//! registered, the field that an event lacks, or what one that is out of place contradicts; and why
+//! a command has no status.
 #![tactic(auto)]
 
 mod command_fault;
-mod file_faults;
-mod parallel;
+mod detail;
+mod fields;
+mod places;
 mod position;
+mod texts;
 
 pub use command_fault::CommandFault;
-pub use file_faults::{Cause, FileFault, code_fault, json_fault, unread_cause};
-pub use parallel::all_made;
-pub use position::{Mark, Position};
+pub use detail::{FaultDetail, detail_of, file_detail, json_detail, unread_detail};
+pub use position::{EncodingMark, Position};
+pub use texts::FaultDetailMembers;

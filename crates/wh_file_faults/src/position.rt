@@ -1,7 +1,7 @@
 //! Where bytes are not JSON.
 
 ghost use Rattle.std.specs.Prelude.{◌≡◌, IfOk, is_none, is_some};
-ghost use Rattle.wh_file_faults.specs.Faults.{mark_of};
+ghost use Rattle.wh_file_faults.specs.Details.{mark_of};
 ghost use Rattle.wh_json.specs.Fields.{document};
 
 use serde_json::Value;
@@ -21,7 +21,7 @@ pub struct Position {
 
 /// What bytes begin with that are not JSON text in UTF-8.
 #[derive(Clone, Copy, Debug, Drop, PartialEq, Eq)]
-pub enum Mark {
+pub enum EncodingMark {
     /// The byte order mark of UTF-8, which a JSON text may not begin with.
     ByteOrderMark,
     /// That of UTF-16.
@@ -29,13 +29,13 @@ pub enum Mark {
 }
 
 /// The mark that bytes begin with, if they begin with one.
-pub(crate) fn mark_of(bytes: &[u8]) -> Option<Mark>
+pub(crate) fn mark_of(bytes: &[u8]) -> Option<EncodingMark>
     ensures { result ≡ mark_of bytes.now }
 {
     if bytes.starts_with(&[0xEF, 0xBB, 0xBF]) {
-        Some(Mark::ByteOrderMark)
+        Some(EncodingMark::ByteOrderMark)
     } else if bytes.starts_with(&[0xFE, 0xFF]) || bytes.starts_with(&[0xFF, 0xFE]) {
-        Some(Mark::Utf16)
+        Some(EncodingMark::Utf16)
     } else {
         None
     }

@@ -1,1 +1,10 @@
+pub mod Members
+pub mod Found
 pub mod Tagged
+pub mod Starting
+pub mod Taking
+pub mod Given
+pub mod Opening
+pub mod Bringing
+pub mod Followed
+pub mod Tables

@@ -4,17 +4,17 @@ use Rattle.std.specs.Io.KnownBytes.{Appends}
 use Rattle.wh_explain.specs.Differences.{IsDifferenceIn}
 use Rattle.wh_explain.specs.Explaining.{unknown_in}
 use Rattle.wh_explain.specs.declared.findings.Finding.{Finding}
-use Rattle.wh_fault_details.specs.Details.{detail_of}
-use Rattle.wh_fault_details.specs.declared.detail.FaultDetail.{FaultDetail}
+use Rattle.wh_file_faults.specs.Details.{detail_of}
+use Rattle.wh_file_faults.specs.declared.detail.FaultDetail.{FaultDetail}
 use Rattle.wh_html.specs.Html.{bytes as bytes_of}
 use Rattle.wh_json.specs.Events.{history}
 use Rattle.wh_page.specs.Pages.{page_html}
 use Rattle.wh_run_page.specs.Pages.{page_of}
 use Rattle.wh_run_page.specs.declared.said.Said.{Said}
 use Rattle.wh_tester.specs.Report.{is_good, verdict_text}
-use Rattle.wh_verdict.specs.Verdicts.{IsVerdict}
-use Rattle.wh_verdict.specs.declared.line.Verdict.{Verdict}
-use Rattle.wh_verdict.specs.declared.line.Verdict.TheVariants.{OutOfMemory}
+use Rattle.wh_tester.specs.Verdicts.{IsVerdict}
+use Rattle.wh_tester.specs.declared.line.Verdict.{Verdict}
+use Rattle.wh_tester.specs.declared.line.Verdict.TheVariants.{OutOfMemory}
 use Rattle.wh_timeline.specs.Views.{IsAxisOf}
 use Rattle.wh_timeline.specs.declared.axis.Stop.{Stop}
 use Rattle.wh_timeline.specs.declared.page.Page.{Page}

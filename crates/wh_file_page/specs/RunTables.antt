@@ -3,10 +3,10 @@ use Rattle.std.specs.Prelude.{◌≡◌, ◌↔◌, ℕ, IsSome, Bool, true, fal
 use Rattle.std.specs.Option.{option_map}
 use Rattle.wh_events.specs.declared.event.Payload.{Payload}
 use Rattle.wh_html.specs.Html.{Html, nothing, markup, hole, ◌⊕◌, number}
-use Rattle.wh_run_way.specs.declared.way.Way.{Way}
-use Rattle.wh_run_way.specs.Ways.{IsWayOf}
-use Rattle.wh_run_way.specs.Brought.{BringsTable}
-use Rattle.wh_table_picture.specs.declared.layout.Line.{Line}
+use Rattle.wh_file_page.specs.declared.way.Way.{Way}
+use Rattle.wh_file_page.specs.Ways.{IsWayOf}
+use Rattle.wh_file_page.specs.Brought.{BringsTable}
+use Rattle.wh_table_picture.specs.declared.layout.PictureRow.{PictureRow}
 use Rattle.wh_table_picture.specs.declared.marks.Marks.{Marks}
 use Rattle.wh_table_picture.specs.Drawings.{table_lines}
 use Rattle.wh_table_picture.specs.Marking.{marked}
@@ -23,7 +23,7 @@ marks_of way = record {
 }
 
 -- the rows of the table that came in the first payload, with their marks
-abbrev pub lines_of : Marks → List Payload → List Line
+abbrev pub lines_of : Marks → List Payload → List PictureRow
 lines_of marks [] = []
 lines_of marks (first ∷ others) = marked marks (table_lines first.content)
 

@@ -4,12 +4,12 @@ use Rattle.wh_explain.specs.declared.explanation.Pairing.{Pairing}
 use Rattle.wh_explain.specs.declared.explanation.Pairing.TheVariants.{Alike, Different, CommandMissing, CommandExtra}
 use Rattle.wh_explain.specs.declared.explanation.RecordedEvent.{RecordedEvent}
 use Rattle.wh_phrases.specs.Phrases.{event_phrase, phrase_text}
-use Rattle.wh_fault_details.specs.declared.detail.FaultDetail.{FaultDetail}
-use Rattle.wh_fault_details.specs.Texts.{detail_text}
+use Rattle.wh_file_faults.specs.declared.detail.FaultDetail.{FaultDetail}
+use Rattle.wh_file_faults.specs.DetailTexts.{detail_text}
 use Rattle.wh_replay.specs.declared.fault.Fault.{Fault}
 use Rattle.wh_replay.specs.declared.fault.Fault.TheVariants as faults
-use Rattle.wh_verdict.specs.declared.line.Verdict.{Verdict}
-use Rattle.wh_verdict.specs.declared.line.Verdict.TheVariants as verdicts
+use Rattle.wh_tester.specs.declared.line.Verdict.{Verdict}
+use Rattle.wh_tester.specs.declared.line.Verdict.TheVariants as verdicts
 use Rattle.wh_tester.specs.Report.{event_of}
 use Rattle.wh_timeline.specs.declared.page.Difference.{Difference as Sides}
 use Rattle.wh_workflow.specs.declared.command.Command.{Command}

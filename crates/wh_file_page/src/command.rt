@@ -1,25 +1,25 @@
 //! The page of a history file is written.
 
-ghost use Rattle.std.specs.Prelude.{◌≡◌, ◌≢◌, Err, IfErr, IfOk, IsOk, OnOk};
+ghost use Rattle.std.specs.Prelude.{◌≡◌, ◌≢◌, Bool, Err, IfErr, IfOk, IsOk, OnOk};
 ghost use Rattle.std.specs.Io.KnownBytes.{Appends};
 ghost use Rattle.wh_file_page.specs.Pages.{IsPageOf, IsPaged};
+ghost use Rattle.wh_file_page.specs.Readings.{IsReadAs};
 ghost use Rattle.wh_file_page.specs.RunTables.{IsTableOf, table_html};
 ghost use Rattle.wh_html.specs.Html.{bytes as bytes_of};
 ghost use Rattle.wh_json.specs.declared.fault.ReadFault.{ReadFault};
 ghost use Rattle.wh_page.specs.Pages.{page_html};
 ghost use Rattle.wh_timeline.specs.Views.{IsAxisOf};
-ghost use Rattle.wh_view.specs.Views.{IsViewIn, members_of};
+ghost use Rattle.wh_view.specs.Views.{members_of};
 
 use crate::fault::PageFault;
+use crate::reading::{FileReading, read_file};
 use crate::run_table::{RunTable, TablePart, table_as};
 use crate::said::said_as;
 use std::alloc::Global;
 use std::io;
 use std::io::Write;
-use wh_json::ReadFault;
 use wh_page::{Axis, Page, axis_of, write_body, write_end};
 use wh_run_page::page_of;
-use wh_view::{View, view_of};
 use wh_workflow::Workflow;
 
 /// A page with its axis and the table of its run, and the status of its report.
@@ -31,41 +31,29 @@ struct Prepared {
     status: u8,
 }
 
-/// The view of bytes.
-fn viewed(alloc: Global, bytes: &[u8]) -> Result<View, PageFault>
-    ensures view { IfOk result (IsViewIn bytes.now) }
-    ensures unviewed { (fault : ReadFault) → result ≡ Err (PageFault.Unviewed fault)
-        → members_of bytes.now ≡ Err fault }
-    ensures output { result ≢ Err PageFault.Output }
-{
-    match view_of(alloc, bytes) {
-        Ok(view) => Ok(view),
-        Err(ReadFault::OutOfMemory) => Err(PageFault::OutOfMemory),
-        Err(fault) => Err(PageFault::Unviewed(fault)),
-    }
-}
-
-/// The page of a file whose view is there.
+/// The page of a file that was read.
 fn page_with<W: Workflow>(
     alloc: Global,
     name: &str,
     bytes: &[u8],
-    only_recorded: bool,
-    view: &View,
+    file: FileReading,
 ) -> Result<Prepared, PageFault>
-    ensures page { IfOk result (λ own.
-        IsPageOf W.program only_recorded name.now bytes.now view.now own.page own.status) }
+    ensures page { (only_recorded : Bool) → IsReadAs only_recorded bytes.now file.read → IfOk result (λ own.
+        IsPageOf W.program only_recorded name.now bytes.now file.view own.page own.status) }
     ensures axis { IfOk result (λ own. IsAxisOf own.page own.axis.stops) }
-    ensures table { IfOk result (λ own. IsTableOf only_recorded bytes.now own.table) }
+    ensures table { (only_recorded : Bool) → IsReadAs only_recorded bytes.now file.read
+        → IfOk result (λ own. IsTableOf only_recorded bytes.now own.table) }
     ensures memory { IfErr result (λ fault. fault ≡ PageFault.OutOfMemory) }
 {
-    let own = said_as::<W>(alloc, name, bytes, only_recorded)?;
-    let page = page_of(alloc, view, own.said)?;
+    let FileReading { view, read } = file;
+    let table = table_as(alloc, &read)?;
+    let own = said_as::<W>(alloc, name, bytes, read)?;
+    let page = page_of(alloc, &view, own.said)?;
     let axis = axis_of(alloc, &page)?;
     Ok(Prepared {
         page,
         axis,
-        table: table_as(alloc, bytes, only_recorded)?,
+        table,
         status: own.status,
     })
 }
@@ -86,15 +74,17 @@ fn write_page<O: Write>(own: &Prepared, writer: &mut O) -> io::Result<()>
 /// and fetches nothing. Whatever the history holds stands in it as text.
 ///
 /// It shows what the bytes hold, as `wh_view::view_of` views it, also where the reader of histories
-/// refuses an event. The file is replayed once with the code of `W`: the page has the verdict in the
-/// words of its line in the report of replay, both sides of a difference, and marks the event that
-/// the verdict is about. The status is that of the report: 0 if the verdict is good, and else 1.
-/// With `only_recorded` nothing is replayed, the page has no verdict, and the status is 0.
+/// refuses an event. The file is parsed once, and once more only if an event lacks a field or is not
+/// in place. It is replayed once with the code of `W`: the page has the verdict in the words of its
+/// line in the report of replay, both sides of a difference, and marks the event that the verdict is
+/// about. The status is that of the report: 0 if the verdict is good, and else 1. With
+/// `only_recorded` nothing is replayed, the page has no verdict, and the status is 0.
 ///
 /// If the type is `Table` or `Table:NAME`, the first payload of the start's input is a table and a
 /// workflow task was started, the page has that table as `wh_table_picture` draws it, with marks at
-/// the rows that the run takes in a replay, up to its fault if it has one. This does not depend
-/// on `W`. Otherwise, and with `only_recorded`, the page has no table.
+/// the rows that the run takes in a replay, up to its fault if it has one. This does not depend on
+/// `W`: a history of these types, and no other, is replayed once more as the run of a table.
+/// Otherwise, and with `only_recorded`, the page has no table.
 ///
 /// `Unviewed` if the bytes have no list of events. Nothing is written then, nor if the answer
 /// is `OutOfMemory`. `Output` if they have one, and the page can't be written; some of it may have
@@ -113,8 +103,8 @@ pub fn page_command<W: Workflow, O: Write>(
     ensures output { result ≡ Err PageFault.Output → IsOk (members_of bytes.now) }
     ensures unwritten { IfErr result (λ fault. fault ≢ PageFault.Output → writer.new ≡ writer.old) }
 {
-    let view = viewed(alloc, bytes)?;
-    let own = page_with::<W>(alloc, name, bytes, only_recorded, &view)?;
+    let file = read_file(alloc, bytes, only_recorded)?;
+    let own = page_with::<W>(alloc, name, bytes, file)?;
     match write_page(&own, writer) {
         Ok(()) => Ok(own.status),
         Err(_) => Err(PageFault::Output),

@@ -1,23 +1,27 @@
 //! The table of a run, with the path that the run took through its rows.
-ghost use Rattle.std.specs.Prelude.{◌≡◌, IfOk, Some};
+ghost use Rattle.std.specs.Prelude.{◌≡◌, ℕ, Bool, IfOk, List, Some};
 ghost use Rattle.std.specs.Option.{option_map};
+ghost use Rattle.wh_explain.specs.Reading.{IsReadOf};
 ghost use Rattle.wh_html.specs.Html.{bytes};
+ghost use Rattle.wh_file_page.specs.Readings.{IsReadAs};
 ghost use Rattle.wh_file_page.specs.RunTables.{IsTableIn, IsTableOf, lines_of, marks_of, run_table};
 ghost use Rattle.wh_file_page.specs.RunTables.{section_html, standing_html, table_html};
 
+use crate::following::way_of;
+use crate::way::Way;
 use std::alloc::Global;
 use std::fmt;
-use wh_events::{Items, OutOfMemory, Payload, Text};
+use wh_events::{Event, Items, OutOfMemory, Payload, Text};
 use wh_html::Escaped;
-use wh_run_way::{Way, way_of};
-use wh_table_picture::{Line, MarkedPicture, Marks, marked_table};
+use wh_json::ReadFault;
+use wh_table_picture::{MarkedPicture, Marks, PictureRow, marked_table};
 use wh_workflow::text_of;
 
 /// The table of a run, with the path that the run took through its rows.
 #[derive(Drop)]
 pub struct RunTable {
     /// Its rows, with their marks.
-    pub(crate) lines: Items<Line>,
+    pub(crate) lines: Items<PictureRow>,
     /// For how many jobs the run took a row.
     pub(crate) taken: usize,
     /// The state that it stands in after its last replayed task.
@@ -50,7 +54,11 @@ fn marks_of(alloc: Global, way: &Way) -> Result<Marks, OutOfMemory>
 }
 
 /// The rows of the table that came in the first payload, with their marks.
-fn lines_of(alloc: Global, marks: &Marks, payloads: &[Payload]) -> Result<Items<Line>, OutOfMemory>
+fn lines_of(
+    alloc: Global,
+    marks: &Marks,
+    payloads: &[Payload],
+) -> Result<Items<PictureRow>, OutOfMemory>
     ensures { IfOk result (λ lines. lines ≡ lines_of marks.now payloads.now) }
 {
     match payloads {
@@ -72,37 +80,39 @@ fn run_table(alloc: Global, way: &Way) -> Result<RunTable, OutOfMemory>
     })
 }
 
-/// Returns the table of the run of a history file, if it brings one and a workflow task of it was
-/// started.
-fn table_in(alloc: Global, bytes: &[u8]) -> Result<Option<RunTable>, OutOfMemory>
-    ensures { IfOk result (IsTableIn bytes.now) }
+/// Returns the table of the run of a history file, from the result of reading it, if it brings one
+/// and a workflow task of it was started.
+fn table_in(
+    alloc: Global,
+    read: &Result<Vec<Event>, ReadFault>,
+) -> Result<Option<RunTable>, OutOfMemory>
+    ensures { (bytes : List ℕ) → IsReadOf bytes read.now → IfOk result (IsTableIn bytes) }
 {
-    match way_of(alloc, bytes)? {
+    match way_of(alloc, read)? {
         Some(way) => Ok(Some(run_table(alloc, &way)?)),
         None => Ok(None),
     }
 }
 
-/// Returns the same, but `None` if only what is recorded is asked for.
+/// Returns the same, but `None` of a history that was not read.
 pub(crate) fn table_as(
     alloc: Global,
-    bytes: &[u8],
-    only_recorded: bool,
+    read: &Option<Result<Vec<Event>, ReadFault>>,
 ) -> Result<Option<RunTable>, OutOfMemory>
-    ensures { IfOk result (IsTableOf only_recorded bytes.now) }
+    ensures { (only_recorded : Bool) (bytes : List ℕ) → IsReadAs only_recorded bytes read.now
+        → IfOk result (IsTableOf only_recorded bytes) }
 {
-    if only_recorded {
-        Ok(None)
-    } else {
-        table_in(alloc, bytes)
+    match read {
+        Some(read) => table_in(alloc, read),
+        None => Ok(None),
     }
 }
 
 /// Where a run stands after its last replayed task.
 #[derive(Drop)]
-struct Standing<'a>(&'a RunTable);
+struct RunStanding<'a>(&'a RunTable);
 
-impl fmt::Display for Standing<'_> {
+impl fmt::Display for RunStanding<'_> {
     ghost output = { λ own. Some (bytes (standing_html own.0.now)) };
 
     fn fmt<W: fmt::Write>(&self, f: &mut fmt::Formatter<W>) -> fmt::Result {
@@ -129,7 +139,7 @@ impl fmt::Display for Section<'_> {
 
     fn fmt<W: fmt::Write>(&self, f: &mut fmt::Formatter<W>) -> fmt::Result {
         let taken = self.0.taken;
-        let standing = Standing(self.0);
+        let standing = RunStanding(self.0);
         let picture = MarkedPicture {
             lines: self.0.lines.get(),
             ended: self.0.closed,

@@ -1,16 +1,18 @@
 //! What is said of a file on its page.
 
-ghost use Rattle.std.specs.Prelude.{◌≡◌, ◌≢◌, IfOk};
+ghost use Rattle.std.specs.Prelude.{◌≡◌, ◌≢◌, Bool, IfOk};
+ghost use Rattle.wh_explain.specs.Reading.{IsReadOf};
 ghost use Rattle.wh_file_page.specs.Pages as pages;
+ghost use Rattle.wh_file_page.specs.Readings.{IsReadAs};
 
-use crate::words::{copied, difference_of, note_of, verdict_place, verdict_words};
+use crate::words::{copy_text, difference_of, note_of, verdict_place, verdict_words};
 use std::alloc::Global;
-use wh_events::{OutOfMemory, Text};
-use wh_explain::{Finding, check_file};
-use wh_fault_details::{FaultDetail, detail_of};
+use wh_events::{Event, OutOfMemory, Text};
+use wh_explain::{Finding, explain_read};
+use wh_file_faults::{FaultDetail, detail_of};
+use wh_json::ReadFault;
 use wh_run_page::Said;
-use wh_tester::is_good;
-use wh_verdict::Verdict;
+use wh_tester::{Verdict, is_good};
 use wh_workflow::Workflow;
 
 /// What is said of a file, and the status of its report.
@@ -37,7 +39,7 @@ fn said_of(
 ) -> Result<Said, OutOfMemory>
     ensures { IfOk result (λ said. said ≡ pages.said_of name.now finding.now detail.now) }
 {
-    let title = copied(alloc, name)?;
+    let title = copy_text(alloc, name)?;
     let verdict = verdict_words(alloc, &finding.verdict)?;
     let difference = difference_of(alloc, &finding.difference)?;
     let note = note_of(alloc, &finding.unknown, detail)?;
@@ -68,21 +70,28 @@ fn said_by(alloc: Global, name: &str, bytes: &[u8], finding: Finding) -> Result<
     })
 }
 
-/// What is said of a file that is replayed.
-fn replayed<W: Workflow>(alloc: Global, name: &str, bytes: &[u8]) -> Result<Judged, OutOfMemory>
-    ensures { IfOk result (λ own. pages.IsReplayed W.program name.now bytes.now own.said own.status) }
+/// What is said of a file that is replayed, from the result of reading it.
+fn judge_replayed<W: Workflow>(
+    alloc: Global,
+    name: &str,
+    bytes: &[u8],
+    read: Result<Vec<Event>, ReadFault>,
+) -> Result<Judged, OutOfMemory>
+    ensures { IsReadOf bytes.now read → IfOk result (λ own.
+        pages.IsReplayed W.program name.now bytes.now own.said own.status) }
 {
-    let finding = check_file::<W>(alloc, bytes);
+    let (finding, tasks) = explain_read::<W>(alloc, read)?;
+    drop(tasks);
     said_by(alloc, name, bytes, finding)
 }
 
 /// What is said of a file that is not replayed.
-fn recorded(alloc: Global, name: &str) -> Result<Judged, OutOfMemory>
+fn judge_recorded(alloc: Global, name: &str) -> Result<Judged, OutOfMemory>
     ensures said { IfOk result (λ own. own.said ≡ pages.recorded_said name.now) }
     ensures ends { IfOk result (λ own. own.status ≡ 0) }
 {
-    let title = copied(alloc, name)?;
-    let verdict = copied(alloc, "recorded, and not replayed")?;
+    let title = copy_text(alloc, name)?;
+    let verdict = copy_text(alloc, "recorded, and not replayed")?;
     Ok(Judged {
         said: Said {
             title,
@@ -96,19 +105,18 @@ fn recorded(alloc: Global, name: &str) -> Result<Judged, OutOfMemory>
     })
 }
 
-/// What is said of a file, which is replayed unless only what is recorded is asked for.
+/// What is said of a file, which is replayed if its history was read.
 pub(crate) fn said_as<W: Workflow>(
     alloc: Global,
     name: &str,
     bytes: &[u8],
-    only_recorded: bool,
+    read: Option<Result<Vec<Event>, ReadFault>>,
 ) -> Result<Judged, OutOfMemory>
-    ensures { IfOk result (λ own.
+    ensures { (only_recorded : Bool) → IsReadAs only_recorded bytes.now read → IfOk result (λ own.
         pages.IsSaidOf W.program only_recorded name.now bytes.now own.said own.status) }
 {
-    if only_recorded {
-        recorded(alloc, name)
-    } else {
-        replayed::<W>(alloc, name, bytes)
+    match read {
+        Some(read) => judge_replayed::<W>(alloc, name, bytes, read),
+        None => judge_recorded(alloc, name),
     }
 }

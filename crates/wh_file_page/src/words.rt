@@ -7,17 +7,16 @@ ghost use Rattle.wh_tester.specs.Report.{event_of, live_text, verdict_text};
 use std::alloc::Global;
 use wh_events::{OutOfMemory, Text};
 use wh_explain::{Pairing, RecordedEvent};
-use wh_fault_details::FaultDetail;
+use wh_file_faults::FaultDetail;
 use wh_json::ReadFault;
 use wh_phrases::{PhraseText, event_phrase};
 use wh_replay::{Checked, Fault};
-use wh_tester::{FaultText, ReplayFaultText};
+use wh_tester::{FaultText, ReplayFaultText, Verdict};
 use wh_timeline::Difference;
-use wh_verdict::Verdict;
 use wh_workflow::{Command, Mismatch};
 
 /// A text of its own.
-pub(crate) fn copied(alloc: Global, text: &str) -> Result<Text, OutOfMemory>
+pub(crate) fn copy_text(alloc: Global, text: &str) -> Result<Text, OutOfMemory>
     ensures { IfOk result (λ copy. copy ≡ text.now) }
 {
     Ok(Text::new(String::from_str(alloc, text)?))
@@ -53,7 +52,7 @@ pub(crate) fn verdict_words(alloc: Global, verdict: &Verdict) -> Result<Text, Ou
             let fault = ReplayFaultText(*fault);
             Ok(Text::new(format!(in alloc; "fault, {fault}")?))
         }
-        Verdict::OutOfMemory => copied(alloc, "out of memory"),
+        Verdict::OutOfMemory => copy_text(alloc, "out of memory"),
     }
 }
 
@@ -151,7 +150,7 @@ fn sides_of(alloc: Global, pairing: &Pairing) -> Result<Difference, OutOfMemory>
             alloc, command, event,
         ),
         Pairing::CommandMissing { event } => {
-            let code = copied(alloc, "nothing")?;
+            let code = copy_text(alloc, "nothing")?;
             let history = recorded_words(alloc, event)?;
             Ok(Difference {
                 event: Some(event.number.get()),
@@ -161,7 +160,7 @@ fn sides_of(alloc: Global, pairing: &Pairing) -> Result<Difference, OutOfMemory>
         }
         Pairing::CommandExtra { command } => {
             let code = command_words(alloc, command)?;
-            let history = copied(alloc, "nothing")?;
+            let history = copy_text(alloc, "nothing")?;
             Ok(Difference {
                 event: None,
                 code,

@@ -1,14 +1,20 @@
 //! A worker host: slots, a sticky cache and books as one state, and the lock around it that threads
-//! share.
+//! share. Companions observe it beside its workers, from a seat that they read its counts from.
 #![tactic(auto)]
 
+mod companion;
 mod config;
+mod end_signal;
 mod host;
 pub mod laws;
 mod reply;
+mod spare;
 mod state;
 
+pub use companion::{Companion, accompany};
 pub use config::{Config, MOST_SEATS, OpenFault};
+pub use end_signal::EndSignal;
 pub use host::Host;
 pub use reply::{Counts, Evict, Given, Outcome, Totals};
+pub use spare::{put_spare, take_spare, with_spare};
 pub use state::{HostState, Mark};

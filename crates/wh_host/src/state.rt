@@ -264,7 +264,7 @@ impl<W: Workflow, T: Ledger, C: Ledger, F: Ledger> HostState<W, T, C, F> {
             failed: shares.failed,
             in_hand: self.in_hand(),
             cached: self.cache.len(),
-            cached_events: self.cache.held(),
+            cached_events: self.cache.total_weight(),
             workflow: self.workflow.count(),
             activity: self.activity.count(),
         }
@@ -272,7 +272,7 @@ impl<W: Workflow, T: Ledger, C: Ledger, F: Ledger> HostState<W, T, C, F> {
 
     /// Returns the history of the run that is cached for the key, if one is. Nothing changes: no
     /// slot is used, nothing is counted, and the order of use stays.
-    pub fn cached(&self, key: &RunKey) -> Option<&ReplayedHistory<W>>
+    pub fn cached_history(&self, key: &RunKey) -> Option<&ReplayedHistory<W>>
         ensures { option_map (λ history. history.now) result ≡ lookup (same_key key.now) self.now.cache.runs }
     {
         self.cache.peek(key)

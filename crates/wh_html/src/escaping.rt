@@ -38,7 +38,7 @@ fn is_unseen(c: char) -> bool
 }
 
 /// Returns a character as it is shown.
-fn seen(c: char) -> char
+fn visible_char(c: char) -> char
     ensures { result ≡ seen c }
 {
     if c < ' ' {
@@ -74,7 +74,7 @@ impl fmt::Display for EscapedChar {
     ghost output = { λ e. Some (escaped_char e.0) };
 
     fn fmt<W: fmt::Write>(&self, f: &mut fmt::Formatter<W>) -> fmt::Result {
-        let c = seen(self.0);
+        let c = visible_char(self.0);
         match reference_of(c) {
             Some(reference) => write!(f, "{reference}"),
             None => write!(f, "{c}"),

@@ -7,4 +7,4 @@ pub mod laws;
 mod times;
 
 pub use escaping::Escaped;
-pub use times::{LAST_TIME, Span, Stamp};
+pub use times::{LAST_TIME, Stamp, TimeSpan};

@@ -125,9 +125,9 @@ impl fmt::Display for Stamp {
 
 /// A span of time in milliseconds, by its two largest units: `1 h 12 min`.
 #[derive(Clone, Copy)]
-pub struct Span(pub u64);
+pub struct TimeSpan(pub u64);
 
-impl fmt::Display for Span {
+impl fmt::Display for TimeSpan {
     ghost output = { λ t. Some (span_text t.0) };
 
     #[tactic(auto, unfolding(crate::specs::Times::span_text))]

@@ -43,7 +43,7 @@ pub fn attributes_in(member: &Value) -> Option<&Value>
 }
 
 /// Copies a text. Fails with `OutOfMemory` if there was no memory for it.
-fn copied(alloc: Global, text: &str) -> Result<Text, OutOfMemory>
+fn copy_text(alloc: Global, text: &str) -> Result<Text, OutOfMemory>
     ensures { IfOk result (λ copy. copy ≡ text.now) }
 {
     Ok(Text::new(String::from_str(alloc, text)?))
@@ -71,8 +71,8 @@ fn partial_fields(
         fields ≡ partial_fields (rule_of row.now) (option_map (λ v. view v.now) attributes.entry)) }
 {
     let reference = number_or_zero(read_path(attributes, row.reference)).unwrap_or(0);
-    let first = copied(alloc, first_text(row, attributes))?;
-    let second = copied(alloc, text_of(read_path(attributes, row.second)))?;
+    let first = copy_text(alloc, first_text(row, attributes))?;
+    let second = copy_text(alloc, text_of(read_path(attributes, row.second)))?;
     Ok(Fields {
         reference,
         first,
@@ -137,7 +137,7 @@ pub fn partial_event(
 ) -> Result<PartialEvent, OutOfMemory>
     ensures { IfOk result (λ event. event ≡ partial_event at before (view member.now)) }
 {
-    let name = copied(alloc, name_of(member))?;
+    let name = copy_text(alloc, name_of(member))?;
     let (kind, fault) = kind_and_fault(alloc, at, before, member)?;
     Ok(PartialEvent {
         number: event_number(member),

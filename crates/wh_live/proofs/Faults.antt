@@ -2,7 +2,7 @@
 use Rattle.std.proofs.Common.{◌≡◌, refl}
 use Rattle.wh_client.specs.declared.asking.AskFault.TheVariants as asked
 use Rattle.wh_client.specs.declared.codes.Receipt.TheVariants.{Acknowledged, Cut}
-use Rattle.wh_client.specs.declared.codes.Status.TheVariants as status
+use Rattle.wh_client.specs.declared.codes.StatusCode.TheVariants as status
 use Rattle.wh_client.specs.declared.codes.Receipt.{Receipt}
 use Rattle.wh_client.specs.declared.codes.Receipt.TheVariants as receipt
 use Rattle.wh_live.specs.Answers.{CausesByFault, ReceiptsByFault}

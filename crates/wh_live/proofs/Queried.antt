@@ -1,14 +1,17 @@
--- The results of the queries of a task.
-use Rattle.std.proofs.Common.{◌≡◌, List, [], ◌∷◌, length, refl, String, Global}
-use Rattle.serde_json.specs.Data.{Members}
+-- What becomes of a completion, by the queries of its task.
+use Rattle.std.proofs.Common.{◌≡◌, List, [], ◌∷◌, length, refl, arith, String, Global}
 use Rattle.serde_json.specs.View.{members_view}
 use Rattle.serde_json.specs.declared.value.Value.{Value}
-use Rattle.wh_events.specs.declared.event.Event.{Event}
-use Rattle.wh_live.specs.Private.Answering.{GivesResults, HasResults}
+use Rattle.wh_live.specs.Private.Answering.{ByQueries}
 
--- with queries there are those that the handler gives
-pub some_results : (gives_results : GivesResults) (events : List Event) (queries : List (String Global × Value)) (results : Members)
-    → (length queries ≡ 0 → ⊥) → gives_results events (members_view queries) results
-    → HasResults gives_results events (members_view queries) results
-some_results gives_results events [] results some are = absurd (some refl)
-some_results gives_results events (query ∷ queries) results some are = are
+-- without queries it is the one alone
+pub by_none : (queries : List (String Global × Value)) (alone queried : Type 0) → length queries ≡ 0 → alone
+    → ByQueries (members_view queries) alone queried
+by_none [] alone queried none is = is
+by_none (query ∷ queries) alone queried none is = absurd (omega (arith, none))
+
+-- with queries it is the one with their results
+pub by_some : (queries : List (String Global × Value)) (alone queried : Type 0) → (length queries ≡ 0 → ⊥) → queried
+    → ByQueries (members_view queries) alone queried
+by_some [] alone queried some is = absurd (some refl)
+by_some (query ∷ queries) alone queried some is = is

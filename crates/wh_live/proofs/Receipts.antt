@@ -1,5 +1,5 @@
 -- What became of answers.
-use Rattle.std.proofs.Common.{◌≡◌, ℕ, List, Bool, true, false, Option, Result, Ok, Err, IfOk, inl, inr, refl, rules, subst, sym}
+use Rattle.std.proofs.Common.{◌≡◌, ℕ, List, Bool, true, false, Option, Result, Ok, Err, IfOk, inl, inr, refl, subst, sym}
 use Rattle.std.specs.Prelude.{MatchResult, not}
 use Rattle.serde_json.specs.Data.{Data}
 use Rattle.wh_client.specs.Calls.{Fails, Gives}
@@ -13,10 +13,8 @@ use Rattle.wh_commands.specs.declared.names.WorkerNames.{WorkerNames}
 use Rattle.wh_events.specs.declared.memory.OutOfMemory.{OutOfMemory}
 use Rattle.wh_events.specs.declared.key.RunKey.{RunKey}
 use Rattle.wh_slots.specs.declared.TaskName.{TaskName}
-use Rattle.wh_tasks.specs.declared.source.SourceFault.TheVariants.{OutOfMemory as NoRoom}
-use Rattle.wh_live.specs.declared.tallies.Tally.{Tally}
 use Rattle.wh_live.specs.declared.tasks.OpenTask.{OpenTask}
-use Rattle.wh_live.specs.Private.Answering.{AnswersOpen, IsCarried, IsOpenReceipt, Settles}
+use Rattle.wh_live.specs.Private.Answering.{AnswersOpen, IsCarried, IsOpenReceipt}
 use Rattle.wh_live.specs.Private.Receipts.{IsReceiptOf, IsRequestReceipt}
 
 module _ (gives : Gives) (fails : Fails) where
@@ -42,12 +40,7 @@ not_false false e = cc
 pub acknowledged_open : (answers : OpenTask → Receipt → Type 0) (open_task : Option OpenTask) (name : TaskName) (of : Receipt)
     → IsOpenReceipt answers open_task name of → of ≡ receipt.Acknowledged → AnswersOpen answers open_task name receipt.Acknowledged
 acknowledged_open answers open_task name of (inl is) e = subst (AnswersOpen answers open_task name) e is
-acknowledged_open answers open_task name of (inr (inl lost)) e = let is = lost.0 in cc
-acknowledged_open answers open_task name of (inr (inr none)) e = cc
-
--- without memory an answer does not count as taken
-pub forgotten : (became : Receipt → Type 0) (tally : Tally) → became receipt.NoMemory → Settles became (Err NoRoom) tally tally
-forgotten became tally is = record { receipt = receipt.NoMemory; is = is; taken = search rules; tally = refl }
+acknowledged_open answers open_task name of (inr lost) e = let is = lost.0 in cc
 
 module _ (gives : Gives) (names : WorkerNames) (run : RunKey) where
   -- commands that do not continue the run carry nothing over

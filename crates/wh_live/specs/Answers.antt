@@ -5,8 +5,8 @@ use Rattle.wh_client.specs.declared.asking.AskFault.{AskFault}
 use Rattle.wh_client.specs.declared.asking.AskFault.TheVariants as asked
 use Rattle.wh_client.specs.declared.codes.Receipt.{Receipt}
 use Rattle.wh_client.specs.declared.codes.Receipt.TheVariants.{Acknowledged, Cut, Lost, NoMemory}
-use Rattle.wh_requests.specs.declared.request.FailedCause.{FailedCause}
-use Rattle.wh_requests.specs.declared.request.FailedCause.TheVariants.{Nondeterministic, Unhandled}
+use Rattle.wh_messages.specs.declared.request.FailedCause.{FailedCause}
+use Rattle.wh_messages.specs.declared.request.FailedCause.TheVariants.{Nondeterministic, Unhandled}
 use Rattle.wh_replay.specs.declared.fault.Fault.{Fault}
 use Rattle.wh_replay.specs.declared.fault.Fault.TheVariants.{NotATask, Place, Workflow, Mismatch}
 

@@ -5,17 +5,17 @@ use Rattle.wh_client.specs.Calls.{Gives}
 use Rattle.wh_client.specs.Histories.{HasAllMembers, IsWhole, ReadsEvents}
 use Rattle.wh_client.specs.Polls.{IsActivityPoll, IsWorkflowPoll}
 use Rattle.wh_client.specs.Roles.{polls_sticky}
-use Rattle.wh_client.specs.declared.options.Role.{Role}
-use Rattle.wh_client.specs.declared.options.Role.TheVariants.{Normal, Sticky, Activities}
+use Rattle.wh_client.specs.declared.options.TaskQueueKind.{TaskQueueKind}
+use Rattle.wh_client.specs.declared.options.TaskQueueKind.TheVariants.{Normal, Sticky, Activities}
 use Rattle.wh_events.specs.declared.event.Event.{Event}
 use Rattle.wh_events.specs.declared.key.RunKey.{RunKey}
 use Rattle.wh_events.specs.Keys.{same_key}
 use Rattle.wh_live.specs.declared.tallies.Tally.{Tally}
 use Rattle.wh_live.specs.Tallies.{no_counts}
 use Rattle.wh_commands.specs.declared.names.WorkerNames.{WorkerNames}
-use Rattle.wh_responses.specs.declared.response.ActivityPoll.TheVariants.{Task}
-use Rattle.wh_responses.specs.declared.response.PolledActivity.{PolledActivity}
-use Rattle.wh_responses.specs.Responses as read
+use Rattle.wh_messages.specs.declared.response.ActivityPoll.TheVariants.{Task}
+use Rattle.wh_messages.specs.declared.response.PolledActivity.{PolledActivity}
+use Rattle.wh_messages.specs.Responses as read
 use Rattle.wh_tasks.specs.declared.source.WorkflowTask.{WorkflowTask}
 use Rattle.wh_tasks.specs.declared.source.ActivityTask.{ActivityTask}
 use Rattle.wh_tasks.specs.Numbers.{last_number}
@@ -60,13 +60,13 @@ FromQueue gives names None task = ⊥
 FromQueue gives names (Some sticky) task = IsWorkflowTask gives names sticky task
 
 -- an activity task, for the workers of activities
-abbrev pub FromActivities : Gives → WorkerNames → Role → ActivityTask → Type 0
+abbrev pub FromActivities : Gives → WorkerNames → TaskQueueKind → ActivityTask → Type 0
 FromActivities gives names Activities task = IsActivityTask gives names task
 FromActivities gives names Normal task = ⊥
 FromActivities gives names Sticky task = ⊥
 
 -- the source of a role delivers what was read from the results of its polls
-abbrev pub Delivers : Gives → WorkerNames → Role → Delivery → Type 0
+abbrev pub Delivers : Gives → WorkerNames → TaskQueueKind → Delivery → Type 0
 Delivers gives names role (Workflow task) = FromQueue gives names (polls_sticky role) task
 Delivers gives names role (Activity task) = FromActivities gives names role task
 
@@ -101,7 +101,7 @@ AreLater gives names queue run later =
     (later ≡ []) ⊎ ((task : WorkflowTask) × FromQueue gives names queue task × (task.run ≡ run) × (task.events ≡ later))
 
 -- the source of a role fetches the history of a run, continued by the events of its own task
-abbrev pub Fetches : Gives → WorkerNames → Role → RunKey → ℕ → List Event → Type 0
+abbrev pub Fetches : Gives → WorkerNames → TaskQueueKind → RunKey → ℕ → List Event → Type 0
 Fetches gives names role run up_to history =
     (later : List Event) × AreLater gives names (polls_sticky role) run later
     × IsFetched gives names run later up_to history
@@ -121,7 +121,7 @@ HasKept gives names queue (Some kept) = AreLater gives names queue kept.0 kept.1
 -- a source as its callers see it: its role and names, its answers that count as taken, what it has counted, the task
 -- whose answer the server acknowledged since the last poll, and the later events of the open task, with its run
 pub record LiveView : Type 0 where
-  pub role : Role
+  pub role : TaskQueueKind
   pub names : WorkerNames
   pub answers : Answers
   pub tally : Tally
@@ -129,7 +129,7 @@ pub record LiveView : Type 0 where
   pub later : Option (RunKey × List Event)
 
 -- a source that has not polled yet
-abbrev pub fresh : Role → WorkerNames → LiveView
+abbrev pub fresh : TaskQueueKind → WorkerNames → LiveView
 fresh role names = record {
   role = role;
   names = names;

@@ -7,12 +7,11 @@ ghost use Rattle.wh_live.specs.Private.Activities.{IsActivityReceipt, IsActivity
 ghost use Rattle.wh_live.specs.Private.Answering.{IsOpenReceipt, Settles};
 
 use crate::answering::{send_written, settle};
-use crate::journals::Journal;
+use crate::tallies::Tally;
 use crate::task_log::log_activity;
 use crate::tasks::OpenTask;
 use wh_client::{Client, Connection, Receipt, Request};
-use wh_events::OutOfMemory;
-use wh_ghost_list::GhostList;
+use wh_events::{GhostList, OutOfMemory};
 use wh_slots::TaskName;
 use wh_tasks::{ActivityAnswer, Sent, SourceFault};
 
@@ -77,22 +76,19 @@ fn answer_open<L: Connection>(
 /// Answers the activity task of a name, and records the answer if it counts as taken.
 pub(crate) fn answer_activity<L: Connection>(
     client: &Client<'_, L>,
-    journal: &mut Journal,
+    tally: &mut Tally,
     taken: &mut GhostList<(TaskName, Sent)>,
     current: Option<OpenTask>,
     name: TaskName,
-    answer: &ActivityAnswer,
+    answer: ActivityAnswer,
 ) -> Result<(), SourceFault>
-    ensures sent { OnOk result (taken.new.items ≡ taken.old.items ++ (name, OfActivity answer.now) ∷ []) }
+    ensures sent { OnOk result (taken.new.items ≡ taken.old.items ++ (name, OfActivity answer) ∷ []) }
     ensures unsent { OnErr result (taken.new.items ≡ taken.old.items) }
-    ensures failures { FailsOnly result journal.old.tally.failures journal.new.tally.failures }
+    ensures failures { FailsOnly result tally.old.failures tally.new.failures }
     ensures settled { Settles (IsOpenReceipt
-        (IsActivityReceipt L.gives L.fails client.now.options.now.names answer.now) current name)
-        result journal.old.tally journal.new.tally }
+        (IsActivityReceipt L.gives L.fails client.now.options.now.names answer) current name)
+        result tally.old tally.new }
 {
-    let Ok(copy) = answer.try_copy() else {
-        return Err(SourceFault::OutOfMemory);
-    };
-    let receipt = answer_open(client, &current, name, answer);
-    settle(journal, taken, receipt, (name, Sent::Activity(copy)))
+    let receipt = answer_open(client, &current, name, &answer);
+    settle(tally, taken, receipt, (name, Sent::Activity(answer)))
 }

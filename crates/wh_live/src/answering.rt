@@ -1,39 +1,34 @@
 //! Answers workflow tasks, and sends and counts answers.
 
-ghost use Rattle.std.specs.Prelude.{◌≡◌, ◌≢◌, ◌≤◌, ◌<◌, ◌↔◌, ◌++◌, ◌∷◌, [], true, false, None, Ok, IsTrue, IsOk};
-ghost use Rattle.std.specs.Prelude.{IfOk, MatchResult, OnOk, OnErr};
+ghost use Rattle.std.specs.Prelude.{◌≡◌, ◌≢◌, ◌≤◌, ◌<◌, ◌↔◌, ◌++◌, ◌∷◌, [], true, false, None, Ok, IsTrue, IsOk, IfOk, MatchResult, OnOk, OnErr};
 ghost use Rattle.serde_json.specs.View.{members_view};
 ghost use Rattle.wh_client.specs.Codes.{is_taken};
 ghost use Rattle.wh_client.specs.declared.codes.Receipt.TheVariants.{Acknowledged, NoMemory, Replaced, Withheld};
 ghost use Rattle.wh_commands.specs.CarryingOver.{carried_seen};
 ghost use Rattle.wh_commands.specs.declared.fault.RequestFault.TheVariants.{OutOfMemory as Unwritten};
+ghost use Rattle.wh_messages.specs.declared.request.FailedCause.TheVariants.{TooLarge, Unhandled};
 ghost use Rattle.wh_tasks.specs.declared.source.Sent.TheVariants.{Workflow as OfWorkflow};
 ghost use Rattle.wh_tasks.specs.Source.{FailsOnly};
 ghost use Rattle.wh_live.specs.Answers.{cause_of, receipt_of};
-ghost use Rattle.wh_live.specs.Private.Answering.{AnswersOpen, CompletesTask, CompletesWith, FailsTask, HasAnswer};
-ghost use Rattle.wh_live.specs.Private.Answering.{IsAnswerReceipt, IsKeptBack, IsOpenReceipt, IsReplaced, Settles};
-ghost use Rattle.wh_live.specs.Private.Answering.{counts_fault};
-ghost use Rattle.wh_live.specs.Private.Answering.{is_reported};
-ghost use Rattle.wh_live.specs.Private.Answering.{receipt_of_sent, reports_refusal, run_use};
+ghost use Rattle.wh_live.specs.Private.Answering.{AnswersOpen, CompletesTask, CompletesWith, FailsTask, HasAnswer, IsAnswerReceipt, IsKeptBack, IsOpenReceipt, IsReplaced, Settles, CountsFault, IsFailed, IsFailedInstead, is_reported, receipt_of_sent, reports_refusal, run_use};
 ghost use Rattle.wh_live.specs.Private.Counting.{settled};
 ghost use Rattle.wh_live.specs.Private.Receipts.{IsRequestReceipt};
 
-use crate::journals::Journal;
 use crate::query_handler::QueryHandler;
+use crate::tallies::Tally;
 use crate::task_log::log_workflow;
 use crate::task_queries::complete_answered;
 use crate::tasks::OpenTask;
-use crate::texts::{fault_text, history_text, replay_text, request_text};
+use crate::texts::{fault_text, history_text, lost_text, replay_text, request_text};
 use std::alloc::AllocError;
 use wh_client::{
-    AskFault, Client, Connection, Receipt, Request, Status, accepted_answer, refused_answer,
+    AskFault, Client, Connection, Receipt, Request, StatusCode, accepted_answer, refused_answer,
 };
 use wh_commands::{CarriedOver, Members, RequestFault, continues_as_new};
-use wh_events::{Event, OutOfMemory};
-use wh_ghost_list::GhostList;
+use wh_events::{Event, GhostList, OutOfMemory};
 use wh_json::ReadFault;
+use wh_messages::FailedCause;
 use wh_replay::{Answer, Fault};
-use wh_requests::FailedCause;
 use wh_slots::TaskName;
 use wh_tasks::{Acceptance, RunUse, Sent, SourceFault};
 use wh_workflow::Command;
@@ -74,14 +69,16 @@ fn receipt_of(fault: &AskFault) -> Receipt
 /// Returns whether a refused answer is reported, by its status and message. It is not if the task
 /// is over, nor if the run had new events while its answer closed it (`UnhandledCommand`): both are
 /// normal.
-fn reports_refusal(status: Status, message: &str) -> bool
+fn reports_refusal(status: StatusCode, message: &str) -> bool
     ensures { result ≡ reports_refusal status message.now }
 {
     match status {
-        Status::NotFound => false,
-        Status::InvalidArgument => message != "UnhandledCommand",
-        Status::Cancelled | Status::PermissionDenied | Status::Unauthenticated | Status::Other =>
-            true,
+        StatusCode::NotFound => false,
+        StatusCode::InvalidArgument => message != "UnhandledCommand",
+        StatusCode::Cancelled
+        | StatusCode::PermissionDenied
+        | StatusCode::Unauthenticated
+        | StatusCode::Other => true,
     }
 }
 
@@ -114,7 +111,7 @@ fn run_use(receipt: Receipt) -> RunUse
 
 /// Reports something about a task.
 pub(crate) fn report_of<L: Connection>(client: &Client<'_, L>, task: &OpenTask, what: &str) {
-    if let Ok(text) = task.said(client.allocator(), what) {
+    if let Ok(text) = task.describe(client.allocator(), what) {
         client.connection.report(text.as_str());
     }
 }
@@ -123,6 +120,13 @@ pub(crate) fn report_of<L: Connection>(client: &Client<'_, L>, task: &OpenTask, 
 fn report_fault<L: Connection>(client: &Client<'_, L>, task: &OpenTask, fault: &AskFault) {
     if let Ok(text) = fault_text(client.allocator(), fault) {
         report_of(client, task, text.as_str());
+    }
+}
+
+/// Reports why the history of a task has no usable result.
+fn report_lost<L: Connection>(client: &Client<'_, L>, task: &OpenTask, fault: &AskFault) {
+    if let Ok(text) = lost_text(client.allocator(), task, fault) {
+        client.connection.report(text.as_str());
     }
 }
 
@@ -184,7 +188,7 @@ fn fail<L: Connection>(
     if !sends_failure(task.attempt) {
         return Receipt::Withheld;
     }
-    let request = client.failed(&task.token, cause, message);
+    let request = client.failure_request(&task.token, cause, message);
     send_written(client, task, request)
 }
 
@@ -206,27 +210,35 @@ pub(crate) fn fail_unreadable<L: Connection>(
     client: &Client<'_, L>,
     task: &OpenTask,
     fault: &ReadFault,
-) {
-    if let Ok(text) = history_text(client.allocator(), fault) {
-        fail(client, task, FailedCause::Unhandled, text.as_str());
+) -> Receipt
+    ensures later { result ≢ NoMemory → (result ≡ Withheld) ↔ (1 < task.now.attempt) }
+    ensures sent { result ≢ Withheld →
+        FailsTask L.gives L.fails client.now.options.now.names task.now.token Unhandled result }
+{
+    match history_text(client.allocator(), fault) {
+        Ok(text) => fail(client, task, FailedCause::Unhandled, text.as_str()),
+        Err(_) => Receipt::NoMemory,
     }
 }
 
-/// Fails a workflow task whose answer can't be sent, with the reason.
+/// Fails a workflow task whose answer can't be sent, with the reason. Without memory for that the
+/// task is not failed.
 fn replace<L: Connection>(
     client: &Client<'_, L>,
     task: &OpenTask,
     cause: FailedCause,
     reason: Result<String, AllocError>,
 ) -> Receipt
-    ensures { IsReplaced result }
+    ensures replaced { IsReplaced result }
+    ensures failed { result ≡ Replaced →
+        IsFailed L.gives L.fails client.now.options.now.names task.now.token task.now.attempt cause }
 {
-    match reason {
-        Ok(text) => {
-            fail(client, task, cause, text.as_str());
-            Receipt::Replaced
-        }
-        Err(_) => Receipt::NoMemory,
+    let Ok(text) = reason else {
+        return Receipt::NoMemory;
+    };
+    match fail(client, task, cause, text.as_str()) {
+        Receipt::NoMemory => Receipt::NoMemory,
+        _ => Receipt::Replaced,
     }
 }
 
@@ -239,6 +251,8 @@ fn send_completed<L: Connection>(
 ) -> Receipt
     ensures received { IsRequestReceipt L.gives L.fails request result }
     ensures sent { result ≢ Withheld }
+    ensures failed { result ≡ Replaced →
+        IsFailed L.gives L.fails client.now.options.now.names task.now.token task.now.attempt TooLarge }
 {
     match client.send(request) {
         Err(fault) if fault.is_too_large() => {
@@ -257,6 +271,8 @@ pub(crate) fn replace_unwritten<L: Connection>(
 ) -> Receipt
     ensures replaced { IsReplaced result }
     ensures memory { fault.now ≡ Unwritten → result ≡ NoMemory }
+    ensures failed { result ≡ Replaced →
+        IsFailed L.gives L.fails client.now.options.now.names task.now.token task.now.attempt Unhandled }
 {
     match fault {
         RequestFault::OutOfMemory => Receipt::NoMemory,
@@ -282,8 +298,10 @@ pub(crate) fn complete_with<L: Connection>(
     ensures sent { result ≢ Withheld }
     ensures received { CompletesWith L.gives L.fails client.now.options.now task.now commands.now
         events.now (members_view results.entries) (carried_seen carried.now) result }
+    ensures replaced { result ≡ Replaced →
+        IsFailedInstead L.gives L.fails client.now.options.now.names task.now }
 {
-    match client.completed(&task.token, commands, events, results, carried) {
+    match client.completion_request(&task.token, commands, events, results, carried) {
         Ok(request) => send_completed(client, task, request),
         Err(fault) => replace_unwritten(client, task, &fault),
     }
@@ -302,6 +320,8 @@ fn complete<L: Connection, Q: QueryHandler>(
     ensures sent { result ≢ Withheld }
     ensures received { CompletesTask (Q.gives_results query_handler.now) L.gives L.fails
         client.now.options.now task.now commands.now events.now result }
+    ensures replaced { result ≡ Replaced →
+        IsFailedInstead L.gives L.fails client.now.options.now.names task.now }
 {
     if !continues_as_new(commands) {
         let carried = CarriedOver::nothing();
@@ -327,6 +347,8 @@ fn respond<L: Connection, Q: QueryHandler>(
     ensures kept_back { result ≡ Withheld → IsKeptBack task.now answer.now }
     ensures received { result ≢ Withheld → HasAnswer (Q.gives_results query_handler.now)
         L.gives L.fails client.now.options.now task.now answer.now events.now result }
+    ensures replaced { result ≡ Replaced →
+        IsFailedInstead L.gives L.fails client.now.options.now.names task.now }
 {
     match answer {
         Answer::Complete(commands) => complete(client, query_handler, task, commands.get(), events),
@@ -335,30 +357,28 @@ fn respond<L: Connection, Q: QueryHandler>(
 }
 
 /// Fails the open task if its history is malformed, and reports any other fault. Returns whether it
-/// is a fault of the source: the bridge was open, and no usable result came.
+/// is a fault of the source: the bridge was open, and no usable result came, or there was no memory
+/// to fail the task.
 pub(crate) fn settle_unread<L: Connection>(
     client: &Client<'_, L>,
     current: &mut Option<OpenTask>,
     fault: &AskFault,
 ) -> bool
-    ensures is { result ≡ counts_fault current.old fault.now }
+    ensures counts { CountsFault L.gives L.fails client.now.options.now.names current.old fault.now result }
     ensures settled { current.new ≡ None }
 {
     let Some(task) = current.take() else {
         return true;
     };
     match fault {
-        AskFault::History(why) => {
-            fail_unreadable(client, &task, why);
-            false
-        }
+        AskFault::History(why) => fail_unreadable(client, &task, why) == Receipt::NoMemory,
         AskFault::Closed => false,
         AskFault::Output
         | AskFault::Refused { .. }
         | AskFault::Unreadable
         | AskFault::TooManyPages
         | AskFault::OutOfMemory => {
-            report_fault(client, &task, fault);
+            report_lost(client, &task, fault);
             true
         }
     }
@@ -394,32 +414,34 @@ fn answer_open<L: Connection, Q: QueryHandler>(
 pub(crate) fn answer_workflow<L: Connection, Q: QueryHandler>(
     client: &Client<'_, L>,
     query_handler: &Q,
-    journal: &mut Journal,
+    tally: &mut Tally,
     taken: &mut GhostList<(TaskName, Sent)>,
     current: Option<OpenTask>,
     name: TaskName,
-    answer: &Answer,
+    answer: Answer,
     events: &[Event],
     steps: u64,
 ) -> Acceptance
     requires { Q.ready query_handler.now }
-    ensures sent { OnOk result.sent (taken.new.items ≡ taken.old.items ++ (name, OfWorkflow answer.now) ∷ []) }
+    ensures sent { OnOk result.sent (taken.new.items ≡ taken.old.items ++ (name, OfWorkflow answer) ∷ []) }
     ensures unsent { OnErr result.sent (taken.new.items ≡ taken.old.items) }
     ensures run { result.run ≡ RunUse.Cache → AnswersOpen (IsAnswerReceipt (Q.gives_results query_handler.now)
-        L.gives L.fails client.now.options.now answer.now events.now) current name Acknowledged }
+        L.gives L.fails client.now.options.now answer events.now) current name Acknowledged }
     ensures settled { Settles (IsOpenReceipt (IsAnswerReceipt (Q.gives_results query_handler.now)
-        L.gives L.fails client.now.options.now answer.now events.now) current name)
-        result.sent journal.old.tally journal.new.tally }
-    ensures failures { FailsOnly result.sent journal.old.tally.failures journal.new.tally.failures }
+        L.gives L.fails client.now.options.now answer events.now) current name)
+        result.sent tally.old tally.new }
+    ensures failures { FailsOnly result.sent tally.old.failures tally.new.failures }
 {
-    let Ok(copy) = answer.try_copy(client.allocator()) else {
-        return Acceptance {
-            sent: Err(SourceFault::OutOfMemory),
-            run: RunUse::Discard,
-        };
-    };
-    let receipt = answer_open(client, query_handler, &current, name, answer, events, steps);
-    let sent = settle(journal, taken, receipt, (name, Sent::Workflow(copy)));
+    let receipt = answer_open(
+        client,
+        query_handler,
+        &current,
+        name,
+        &answer,
+        events,
+        steps,
+    );
+    let sent = settle(tally, taken, receipt, (name, Sent::Workflow(answer)));
     Acceptance {
         sent,
         run: run_use(receipt),
@@ -428,7 +450,7 @@ pub(crate) fn answer_workflow<L: Connection, Q: QueryHandler>(
 
 /// Counts what became of an answer, and records the answer if it counts as taken.
 pub(crate) fn settle(
-    journal: &mut Journal,
+    tally: &mut Tally,
     taken: &mut GhostList<(TaskName, Sent)>,
     receipt: Receipt,
     sent: (TaskName, Sent),
@@ -436,17 +458,17 @@ pub(crate) fn settle(
     ensures sent { OnOk result (taken.new.items ≡ taken.old.items ++ sent ∷ []) }
     ensures unsent { OnErr result (taken.new.items ≡ taken.old.items) }
     ensures taken { IsTrue (is_taken receipt) ↔ IsOk result }
-    ensures failures { FailsOnly result journal.old.tally.failures journal.new.tally.failures }
-    ensures tally { journal.new.tally ≡ settled receipt journal.old.tally }
+    ensures failures { FailsOnly result tally.old.failures tally.new.failures }
+    ensures tally { tally.new ≡ settled receipt tally.old }
 {
-    journal.tally.answered(receipt);
+    tally.count_answer(receipt);
     if receipt.is_taken() {
         *taken = taken.with(&sent);
         return Ok(());
     }
     match receipt {
         Receipt::NoMemory => Err(SourceFault::OutOfMemory),
-        Receipt::Lost => Err(journal.tally.count_failure(true)),
-        _ => Err(journal.tally.count_failure(false)),
+        Receipt::Lost => Err(tally.count_failure(true)),
+        _ => Err(tally.count_failure(false)),
     }
 }

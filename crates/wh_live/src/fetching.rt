@@ -4,12 +4,11 @@ ghost use Rattle.std.specs.Prelude.{◌≡◌, ◌++◌, ◌+◌, ◌==◌, None
 ghost use Rattle.wh_tasks.specs.Numbers.{last_number};
 ghost use Rattle.wh_tasks.specs.Source.{FailsOnly};
 ghost use Rattle.wh_live.specs.Deliveries.{IsFetched, continued, going_on};
-ghost use Rattle.wh_live.specs.Private.Answering.{counts_fault};
-ghost use Rattle.wh_live.specs.Private.Counting.{with_failure};
+ghost use Rattle.wh_live.specs.Private.Answering.{CountsUnread};
 ghost use Rattle.wh_live.specs.Private.Opening.{later_of, KeepsLater};
 
 use crate::answering::settle_unread;
-use crate::journals::Journal;
+use crate::tallies::Tally;
 use crate::tasks::OpenTask;
 use wh_client::{AskFault, Client, Connection, read_history};
 use wh_events::{Event, OutOfMemory, RunKey};
@@ -93,25 +92,26 @@ fn note_history(current: &mut Option<OpenTask>, history: &[Event])
 
 /// Counts and reports that a history could not be fetched, and closes the open task. Returns the
 /// error of the source.
-fn unfetched<L: Connection>(
+fn fail_fetch<L: Connection>(
     client: &Client<'_, L>,
-    journal: &mut Journal,
+    tally: &mut Tally,
     current: &mut Option<OpenTask>,
     fault: &AskFault,
 ) -> SourceFault
-    ensures tally { journal.new.tally ≡ with_failure (counts_fault current.old fault.now) journal.old.tally }
+    ensures tally { CountsUnread L.gives L.fails client.now.options.now.names current.old fault.now
+        tally.old tally.new }
     ensures current { current.new ≡ None }
-    ensures failures { FailsOnly {A = Unit {0}} (Err result) journal.old.tally.failures journal.new.tally.failures }
+    ensures failures { FailsOnly {A = Unit {0}} (Err result) tally.old.failures tally.new.failures }
 {
     let is_fault = settle_unread(client, current, fault);
-    journal.tally.count_failure(is_fault)
+    tally.count_failure(is_fault)
 }
 
 /// Fetches the history of a run, as a source does when asked for it. If the history is malformed
 /// the open task is failed.
 pub(crate) fn whole<L: Connection>(
     client: &Client<'_, L>,
-    journal: &mut Journal,
+    tally: &mut Tally,
     current: &mut Option<OpenTask>,
     run: &RunKey,
     up_to: u64,
@@ -119,13 +119,13 @@ pub(crate) fn whole<L: Connection>(
     ensures told { IfOk result (λ history. IsFetched L.gives client.now.options.now.names run.now
         (later_of current.old run.now) up_to history.items) }
     ensures current { KeepsLater current.old current.new }
-    ensures failures { FailsOnly result journal.old.tally.failures journal.new.tally.failures }
+    ensures failures { FailsOnly result tally.old.failures tally.new.failures }
 {
     match fetch(client, later_of(current, run), run, up_to) {
         Ok(history) => {
             note_history(current, history.as_slice());
             Ok(history)
         }
-        Err(fault) => Err(unfetched(client, journal, current, &fault)),
+        Err(fault) => Err(fail_fetch(client, tally, current, &fault)),
     }
 }

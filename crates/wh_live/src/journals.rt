@@ -1,15 +1,16 @@
 //! What a source keeps about its polls.
 
-ghost use Rattle.std.specs.Prelude.{◌≡◌, Ok, IfErr, IfOk};
+ghost use Rattle.std.specs.Prelude.{◌≡◌, Ok, IfErr, IfOk, false};
 ghost use Rattle.wh_live.specs.Private.Counting.{with_brought, with_end};
 ghost use Rattle.wh_live.specs.Private.Polls.{end_of, EndsPoll, MayEnd, Reports, WaitsAfter, WaitsFor, polled_of};
+ghost use Rattle.wh_live.specs.Private.Polls.{ended_after, ended_by};
 ghost use Rattle.wh_live.specs.Tallies.{no_counts};
 ghost use Rattle.wh_tasks.specs.Source.{FailsOnly, IfTask};
 ghost use Rattle.wh_live.specs.declared.tasks.Brought.TheVariants.{Task};
 
 use crate::tallies::Tally;
 use crate::tasks::Brought;
-use crate::texts::poll_text;
+use crate::texts::{PollWords, poll_text};
 use crate::troubles::Trouble;
 use wh_client::{AskFault, Connection, PollEnd, poll_end};
 use wh_tasks::{Polled, SourceFault};
@@ -50,7 +51,8 @@ fn polled_of<T>(brought: Brought<T>) -> Polled<T>
 impl Journal {
     /// Returns an empty journal.
     pub(crate) fn new() -> Journal
-        ensures { result.tally ≡ no_counts }
+        ensures tally { result.tally ≡ no_counts }
+        ensures open { result.ended ≡ false }
     {
         Journal {
             tally: Tally::new(),
@@ -65,6 +67,7 @@ impl Journal {
     fn end_failed_poll<L: Connection, T>(
         &mut self,
         connection: &L,
+        words: PollWords<'_>,
         fault: &AskFault,
     ) -> Result<Polled<T>, SourceFault>
         requires { MayEnd L.fails fault.now }
@@ -72,16 +75,17 @@ impl Journal {
         ensures failures { FailsOnly result self.old.tally.failures self.new.tally.failures }
         ensures tally { self.new.tally ≡ with_end (end_of fault.now) self.old.tally }
         ensures trouble { WaitsAfter (end_of fault.now) self.old.trouble self.new.trouble }
+        ensures ended { self.new.ended ≡ ended_by (end_of fault.now) self.old.ended }
     {
         let end = end_of(fault);
         if end == PollEnd::Closed {
             return Ok(Polled::Closed);
         }
-        self.tally.polled(false);
+        self.tally.count_poll(false);
         if end == PollEnd::Never {
             connection.stop_polls();
         }
-        let text = poll_text(connection.allocator(), fault, end);
+        let text = poll_text(connection.allocator(), words, fault, end);
         self.trouble.meet(connection, text);
         if end == PollEnd::Later {
             return Ok(Polled::Nothing);
@@ -101,26 +105,28 @@ impl Journal {
         ensures failures { self.new.tally.failures ≡ self.old.tally.failures }
         ensures tally { self.new.tally ≡ with_brought (Ok brought) self.old.tally }
         ensures trouble { WaitsFor (Ok brought) self.old.trouble self.new.trouble }
+        ensures ended { self.new.ended ≡ self.old.ended }
     {
         match brought {
             Brought::Lost(text) => {
-                self.tally.polled(false);
+                self.tally.count_poll(false);
                 self.tally.lose_task();
                 self.trouble.meet(connection, text);
                 Polled::Nothing
             }
             brought => {
                 self.trouble.end(connection);
-                self.tally.polled(matches!(&brought, Brought::Empty));
+                self.tally.count_poll(matches!(&brought, Brought::Empty));
                 polled_of(brought)
             }
         }
     }
 
     /// Counts a poll. Returns what the source reports to its worker.
-    pub(crate) fn polled<L: Connection, T: Drop>(
+    pub(crate) fn note_poll<L: Connection, T: Drop>(
         &mut self,
         connection: &L,
+        words: PollWords<'_>,
         brought: Result<Brought<T>, AskFault>,
     ) -> Result<Polled<T>, SourceFault>
         requires { IfErr brought (MayEnd L.fails) }
@@ -129,10 +135,11 @@ impl Journal {
         ensures failures { FailsOnly result self.old.tally.failures self.new.tally.failures }
         ensures tally { self.new.tally ≡ with_brought brought self.old.tally }
         ensures trouble { WaitsFor brought self.old.trouble self.new.trouble }
+        ensures ended { self.new.ended ≡ ended_after brought self.old.ended }
     {
         match brought {
             Ok(brought) => Ok(self.count_brought(connection, brought)),
-            Err(fault) => self.end_failed_poll(connection, &fault),
+            Err(fault) => self.end_failed_poll(connection, words, &fault),
         }
     }
 }

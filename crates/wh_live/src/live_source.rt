@@ -13,19 +13,17 @@ use crate::query_handler::QueryHandler;
 use crate::tallies::Tally;
 use crate::tasks::OpenTask;
 use std::marker::Model;
-use wh_client::{Client, Connection, LiveOptions, Role};
-use wh_events::{Event, RunKey};
-use wh_ghost_list::GhostList;
-use wh_heartbeat::ActivityCell;
+use wh_client::{Client, Connection, LiveOptions, TaskQueueKind};
+use wh_events::{Event, GhostList, RunKey};
 use wh_replay::Answer;
 use wh_slots::TaskName;
 use wh_tasks::{
-    Acceptance, ActivityAnswer, ActivityTask, Polled, RunUse, Sent, SourceFault, TaskSource,
-    WorkflowTask,
+    Acceptance, ActivityAnswer, ActivityCell, ActivityTask, Polled, RunUse, Sent, SourceFault,
+    TaskSource, WorkflowTask,
 };
 
 /// Returns the task whose run may be cached after its answer.
-fn acknowledged(run: RunUse, name: TaskName) -> Option<TaskName>
+fn cacheable_task(run: RunUse, name: TaskName) -> Option<TaskName>
     ensures cached { run ≡ RunUse.Cache → result ≡ Some name }
     ensures discarded { run ≡ RunUse.Discard → result ≡ None }
 {
@@ -53,7 +51,7 @@ fn acknowledged(run: RunUse, name: TaskName) -> Option<TaskName>
 pub struct LiveSource<'a, L: Connection, Q: QueryHandler> {
     client: Client<'a, L>,
     query_handler: &'a Q,
-    role: Role,
+    role: TaskQueueKind,
     current: Option<OpenTask>,
     journal: Journal,
     acknowledged: Option<TaskName>,
@@ -65,6 +63,7 @@ impl<'a, L: Connection, Q: QueryHandler> Model for LiveSource<'a, L, Q> {
     ghost use Rattle.wh_client.specs.Roles.{polls_sticky};
     ghost use Rattle.wh_live.specs.Deliveries.{LiveView};
     ghost use Rattle.wh_live.specs.Private.Opening.{HasLater, later_kept};
+    ghost use Rattle.wh_live.specs.Private.Polls.{IsOverIfEnded};
 
     ghost Value = { LiveView };
 
@@ -78,7 +77,7 @@ impl<'a, L: Connection, Q: QueryHandler> Model for LiveSource<'a, L, Q> {
     } };
 
     ghost invariant = { λ s. HasLater L.gives s.client.options.now.names (polls_sticky s.role) s.current
-        × Q.ready s.query_handler.now };
+        × Q.ready s.query_handler.now × IsOverIfEnded L.fails s.journal.ended };
 }
 
 impl<'a, L: Connection, Q: QueryHandler> LiveSource<'a, L, Q> {
@@ -88,7 +87,7 @@ impl<'a, L: Connection, Q: QueryHandler> LiveSource<'a, L, Q> {
         connection: &'a L,
         query_handler: &'a Q,
         options: &'a LiveOptions,
-        role: Role,
+        role: TaskQueueKind,
         cell: Option<&'a ActivityCell>,
     ) -> LiveSource<'a, L, Q>
         requires { Q.ready query_handler.now }
@@ -152,21 +151,21 @@ impl<L: Connection, Q: QueryHandler> TaskSource for LiveSource<'_, L, Q> {
     fn whole(&mut self, key: &RunKey, up_to: u64) -> Result<Vec<Event>, SourceFault> {
         whole(
             &self.client,
-            &mut self.journal,
+            &mut self.journal.tally,
             &mut self.current,
             key,
             up_to,
         )
     }
 
-    fn answer_workflow(&mut self, name: TaskName, answer: &Answer) -> Result<(), SourceFault> {
+    fn answer_workflow(&mut self, name: TaskName, answer: Answer) -> Result<(), SourceFault> {
         self.answer_replayed(name, answer, &[], 0).sent
     }
 
     fn answer_replayed(
         &mut self,
         name: TaskName,
-        answer: &Answer,
+        answer: Answer,
         events: &[Event],
         steps: u64,
     ) -> Acceptance {
@@ -174,7 +173,7 @@ impl<L: Connection, Q: QueryHandler> TaskSource for LiveSource<'_, L, Q> {
         let accepted = answer_workflow(
             &self.client,
             self.query_handler,
-            &mut self.journal,
+            &mut self.journal.tally,
             &mut self.taken,
             current,
             name,
@@ -182,7 +181,7 @@ impl<L: Connection, Q: QueryHandler> TaskSource for LiveSource<'_, L, Q> {
             events,
             steps,
         );
-        self.acknowledged = acknowledged(accepted.run, name);
+        self.acknowledged = cacheable_task(accepted.run, name);
         accepted
     }
 
@@ -193,12 +192,12 @@ impl<L: Connection, Q: QueryHandler> TaskSource for LiveSource<'_, L, Q> {
     fn answer_activity(
         &mut self,
         name: TaskName,
-        answer: &ActivityAnswer,
+        answer: ActivityAnswer,
     ) -> Result<(), SourceFault> {
         let current = self.current.take();
         answer_activity(
             &self.client,
-            &mut self.journal,
+            &mut self.journal.tally,
             &mut self.taken,
             current,
             name,

@@ -1,20 +1,22 @@
 //! Polls for tasks.
 
-ghost use Rattle.std.specs.Prelude.{◌≡◌, ◌≢◌, ◌↔◌, [], IfErr, IfOk, IsErr, Some, map};
+ghost use Rattle.std.specs.Prelude.{◌≡◌, ◌≢◌, ◌↔◌, [], IfErr, IfOk, IsErr, Ok, Some, map};
 ghost use Rattle.serde_json.specs.View.{view};
 ghost use Rattle.wh_client.specs.Histories.{ReadsEvents};
 ghost use Rattle.wh_client.specs.Refusals.{HasItsStatus};
 ghost use Rattle.wh_client.specs.Roles.{polls_sticky};
 ghost use Rattle.wh_client.specs.declared.asking.AskFault.TheVariants as asked;
-ghost use Rattle.wh_responses.specs.Responses.{task_seen};
+ghost use Rattle.wh_messages.specs.Responses.{task_seen};
 ghost use Rattle.wh_tasks.specs.Source.{FailsOnly, IfTask};
+ghost use Rattle.wh_tasks.specs.declared.source.Polled.TheVariants as polled;
 ghost use Rattle.wh_live.specs.Deliveries.{AreLater, FromActivities, FromQueue, IsActivityOf, IsActivityTask};
 ghost use Rattle.wh_live.specs.Deliveries.{IsTaskOf, IsWorkflowTask};
 ghost use Rattle.wh_live.specs.Private.Opening.{IsOpened, OnTask, Opens, OpensActivity, StaysOpen};
 ghost use Rattle.wh_live.specs.Private.Opening.{IsBrought, IsBroughtActivity, IsLost, IsSilent, IsTask};
 ghost use Rattle.wh_live.specs.Private.Opening.{IsActivityFault, IsCutShort, IsWorkflowFault, MayOpen, MayRead};
 ghost use Rattle.wh_live.specs.Private.Opening.{GivesOpened, HasLater, OpensPolled, OpensPolledActivity, OpensQueued};
-ghost use Rattle.wh_live.specs.Private.Opening.{later_events};
+ghost use Rattle.wh_live.specs.Private.Opening.{ClosesActivities, ClosesQueue, later_events};
+ghost use Rattle.wh_live.specs.Private.Polls.{IsOverIfEnded};
 ghost use Rattle.wh_replay.specs.Runs.{follows};
 
 use crate::answering::fail_unreadable;
@@ -22,16 +24,16 @@ use crate::fetching::append_copies;
 use crate::journals::Journal;
 use crate::queries::hand_query_on;
 use crate::tasks::{Brought, OpenTask};
-use crate::texts::lost_text;
+use crate::texts::{PollWords, lost_text};
 use serde_json::Value;
 use std::alloc::Global;
-use wh_client::{AskFault, Client, Connection, Role, read_history};
+use wh_client::{AskFault, Client, Connection, Receipt, TaskQueueKind, read_history};
 use wh_events::{Event, Items, OutOfMemory, RunKey};
-use wh_responses::{ActivityPoll, PolledActivity, PolledTask, WorkflowPoll};
+use wh_messages::{ActivityPoll, PolledActivity, PolledTask, WorkflowPoll};
 use wh_tasks::{ActivityTask, Polled, SourceFault, WorkflowTask};
 
 /// Opens the task that a poll returned, so that it is the one to be answered.
-fn opened<T>(
+fn open_polled<T>(
     current: &mut Option<OpenTask>,
     polled: Result<Polled<(OpenTask, T)>, SourceFault>,
 ) -> Result<Polled<T>, SourceFault>
@@ -70,7 +72,7 @@ fn later_events(alloc: Global, events: &[Event]) -> Result<Vec<Event>, OutOfMemo
 }
 
 /// Returns the open task, to be answered later, and the task to be delivered.
-fn given(
+fn task_pair(
     alloc: Global,
     task: OpenTask,
     run: RunKey,
@@ -121,16 +123,16 @@ fn read_task<L: Connection>(
         (taken.1.run ≡ run) × ReadsEvents (map view members.now) taken.1.events)) }
     ensures opened { IfOk result (OnTask (λ taken. StaysOpen task taken.0 taken.1.name)) }
     ensures later { IfOk result (OnTask (λ taken. taken.0.later.items ≡ later_events taken.1.events)) }
-    ensures brings { IfOk result (MayRead (map view members.now)) }
+    ensures brings { IfOk result (MayRead L.gives L.fails client.now.options.now.names task (map view members.now)) }
     ensures silent { IfErr result IsSilent }
     ensures unclosed { IfErr result (λ why. why ≢ asked.Closed) }
 {
     match read_history(client.allocator(), members) {
-        Ok(events) => Ok(Brought::Task(given(client.allocator(), task, run, events)?)),
-        Err(AskFault::History(fault)) => {
-            fail_unreadable(client, &task, &fault);
-            Ok(Brought::Settled)
-        }
+        Ok(events) => Ok(Brought::Task(task_pair(client.allocator(), task, run, events)?)),
+        Err(AskFault::History(fault)) => match fail_unreadable(client, &task, &fault) {
+            Receipt::NoMemory => Err(AskFault::OutOfMemory),
+            _ => Ok(Brought::Settled),
+        },
         Err(fault) => give_up(client, &task, fault),
     }
 }
@@ -147,7 +149,8 @@ fn open_task<L: Connection>(
         IsTaskOf L.gives client.now.options.now.names (task_seen polled) taken.1)) }
     ensures opened { IfOk result (OnTask (λ taken. Opens id (task_seen polled) taken.0 taken.1.name)) }
     ensures later { IfOk result (OnTask (λ taken. taken.0.later.items ≡ later_events taken.1.events)) }
-    ensures brings { IfOk result (MayOpen L.gives client.now.options.now.names (task_seen polled)) }
+    ensures brings { IfOk result
+        (MayOpen L.gives L.fails client.now.options.now.names (task_seen polled)) }
     ensures silent { IfErr result IsSilent }
     ensures closed { IfErr result (λ why. why ≡ asked.Closed →
         IsCutShort L.gives L.fails client.now.options.now.names (task_seen polled)) }
@@ -182,7 +185,7 @@ fn take_workflow<L: Connection>(
         OpensPolled L.gives client.now.options.now.names sticky taken.0 taken.1)) }
     ensures later { IfOk result (OnTask (λ taken.
         AreLater L.gives client.now.options.now.names (Some sticky) taken.0.run taken.0.later.items)) }
-    ensures brings { IfOk result (IsBrought L.gives client.now.options.now.names sticky) }
+    ensures brings { IfOk result (IsBrought L.gives L.fails client.now.options.now.names sticky) }
     ensures failed { IfErr result
         (IsWorkflowFault L.gives L.fails client.now.options.now.names sticky) }
     ensures refused { IfErr result HasItsStatus }
@@ -260,7 +263,7 @@ fn take_activity<L: Connection>(
 /// Polls for workflow tasks, as the source of a role. A worker of activities polls for none.
 pub(crate) fn poll_workflow<L: Connection>(
     client: &Client<'_, L>,
-    role: Role,
+    role: TaskQueueKind,
     journal: &mut Journal,
     current: &mut Option<OpenTask>,
 ) -> Result<Polled<WorkflowTask>, SourceFault>
@@ -271,6 +274,9 @@ pub(crate) fn poll_workflow<L: Connection>(
     ensures later { HasLater L.gives client.now.options.now.names (polls_sticky role) current.old →
         HasLater L.gives client.now.options.now.names (polls_sticky role) current.new }
     ensures failures { FailsOnly result journal.old.tally.failures journal.new.tally.failures }
+    ensures ended { IsOverIfEnded L.fails journal.old.ended → IsOverIfEnded L.fails journal.new.ended }
+    ensures closed { result ≡ Ok polled.Closed →
+        ClosesQueue L.gives L.fails client.now.options.now.names (polls_sticky role) journal.old.ended }
 {
     if journal.ended {
         return Ok(Polled::Closed);
@@ -279,14 +285,15 @@ pub(crate) fn poll_workflow<L: Connection>(
         return Ok(Polled::Closed);
     };
     let taken = take_workflow(client, sticky);
-    let polled = journal.polled(client.connection, taken);
-    opened(current, polled)
+    let words = PollWords::for_workflows(&client.options.names, sticky);
+    let polled = journal.note_poll(client.connection, words, taken);
+    open_polled(current, polled)
 }
 
 /// Polls for activity tasks, as the source of a role. Only a worker of activities polls for them.
 pub(crate) fn poll_activity<L: Connection>(
     client: &Client<'_, L>,
-    role: Role,
+    role: TaskQueueKind,
     journal: &mut Journal,
     current: &mut Option<OpenTask>,
 ) -> Result<Polled<ActivityTask>, SourceFault>
@@ -296,11 +303,15 @@ pub(crate) fn poll_activity<L: Connection>(
     ensures later { HasLater L.gives client.now.options.now.names (polls_sticky role) current.old →
         HasLater L.gives client.now.options.now.names (polls_sticky role) current.new }
     ensures failures { FailsOnly result journal.old.tally.failures journal.new.tally.failures }
+    ensures ended { IsOverIfEnded L.fails journal.old.ended → IsOverIfEnded L.fails journal.new.ended }
+    ensures closed { result ≡ Ok polled.Closed →
+        ClosesActivities L.gives L.fails client.now.options.now.names role journal.old.ended }
 {
-    if journal.ended || role != Role::Activities {
+    if journal.ended || role != TaskQueueKind::Activities {
         return Ok(Polled::Closed);
     }
     let taken = take_activity(client);
-    let polled = journal.polled(client.connection, taken);
-    opened(current, polled)
+    let words = PollWords::for_activities(&client.options.names);
+    let polled = journal.note_poll(client.connection, words, taken);
+    open_polled(current, polled)
 }

@@ -3,7 +3,7 @@
 ghost use Rattle.wh_client.specs.Polls.{GivesQuery};
 
 use wh_client::{Client, Connection};
-use wh_responses::QueryPoll;
+use wh_messages::QueryPoll;
 
 /// Passes a query that a poll returned to what answers queries beside the workers, or refuses it if
 /// nothing does. A query that the server gets no answer to times out.

@@ -54,7 +54,7 @@ impl Tally {
     }
 
     /// Counts a poll.
-    pub(crate) fn polled(&mut self, is_empty: bool)
+    pub(crate) fn count_poll(&mut self, is_empty: bool)
         ensures { self.new ≡ with_poll is_empty self.old }
     {
         self.polls = self.polls.saturating_add(1);
@@ -64,7 +64,7 @@ impl Tally {
     }
 
     /// Counts an answer.
-    pub(crate) fn answered(&mut self, receipt: Receipt)
+    pub(crate) fn count_answer(&mut self, receipt: Receipt)
         ensures { self.new ≡ with_answer receipt self.old }
     {
         match receipt {

@@ -92,7 +92,7 @@ pub(crate) fn log_activity<L: Connection>(
 
 /// Logs something about a task, with its run.
 fn log_of<L: Connection>(client: &Client<'_, L>, open: &OpenTask, what: &str) {
-    if let Ok(text) = open.said(client.allocator(), what) {
+    if let Ok(text) = open.describe(client.allocator(), what) {
         client.connection.log(text.as_str());
     }
 }

@@ -62,7 +62,7 @@ impl OpenTask {
     }
 
     /// Returns a text about the task, with its run.
-    pub(crate) fn said(&self, alloc: Global, what: &str) -> Result<String, AllocError> {
+    pub(crate) fn describe(&self, alloc: Global, what: &str) -> Result<String, AllocError> {
         let workflow = Shown(self.run.workflow_id.get());
         let run = Shown(self.run.run_id.get());
         format!(in alloc; "{workflow} {run}: {what}")

@@ -3,10 +3,13 @@
 use crate::tasks::OpenTask;
 use std::alloc::{AllocError, Global};
 use wh_client::{AskFault, PollEnd};
-use wh_commands::RequestFault;
+use wh_commands::{RequestFault, WorkerNames};
 use wh_json::ReadFault;
 use wh_replay::Fault;
 use wh_tester::{FaultText, ReplayFaultText, Shown};
+
+/// What becomes of a task whose history could not be fetched or read.
+const TASK_LOSS: &str = "its task is given up, and comes again";
 
 /// Describes why a call has no usable result.
 pub(crate) fn fault_text(alloc: Global, fault: &AskFault) -> Result<String, AllocError> {
@@ -21,29 +24,82 @@ pub(crate) fn fault_text(alloc: Global, fault: &AskFault) -> Result<String, Allo
     }
 }
 
-/// Describes why a poll failed, and what follows if no later one can succeed.
+/// A poll, in the words of the line that tells why it failed.
+#[derive(Clone, Copy)]
+pub(crate) struct PollWords<'a> {
+    /// Its method.
+    method: &'static str,
+    /// Its Task Queue.
+    queue: &'a str,
+    /// What becomes of a task that it got.
+    loss: &'static str,
+}
+
+impl<'a> PollWords<'a> {
+    /// Returns the words of a poll for workflow tasks, of the sticky queue or of the normal one.
+    pub(crate) fn for_workflows(names: &'a WorkerNames, sticky: bool) -> PollWords<'a> {
+        let queue = if sticky {
+            &names.sticky_queue
+        } else {
+            &names.task_queue
+        };
+        PollWords {
+            method: "PollWorkflowTaskQueue",
+            queue: queue.get(),
+            loss: "a task that it got is given up, and comes again",
+        }
+    }
+
+    /// Returns the words of a poll for activity tasks.
+    pub(crate) fn for_activities(names: &'a WorkerNames) -> PollWords<'a> {
+        PollWords {
+            method: "PollActivityTaskQueue",
+            queue: names.task_queue.get(),
+            loss: "a task that it got is given up, and the activity times out",
+        }
+    }
+}
+
+/// Describes why a poll failed: which one it was, what is lost, and whether it is made again. A
+/// refusal has these words from the bridge, and is told with what follows if no later poll can
+/// succeed.
 pub(crate) fn poll_text(
     alloc: Global,
+    words: PollWords<'_>,
     fault: &AskFault,
     end: PollEnd,
 ) -> Result<String, AllocError> {
     let text = fault_text(alloc, fault)?;
+    let PollWords {
+        method,
+        queue,
+        loss,
+    } = words;
+    let queue = Shown(queue);
     match (end, fault) {
         (PollEnd::Never, AskFault::Refused { .. }) => format!(in alloc;
             "{text}: no more tasks are polled for; the program ends, and is to be started again"
         ),
-        _ => Ok(text),
+        (_, AskFault::Refused { .. }) => Ok(text),
+        (PollEnd::Never, _) => format!(in alloc; "{method} of {queue}: {text}; not made again"),
+        _ => format!(in alloc; "{method} of {queue}: {text}; {loss}; made again"),
     }
 }
 
-/// Describes why the history of a task has no usable result, with the run of the task.
+/// Describes why the history of a task has no usable result, with the run of the task, and what is
+/// lost. A refusal has these words from the bridge.
 pub(crate) fn lost_text(
     alloc: Global,
     task: &OpenTask,
     fault: &AskFault,
 ) -> Result<String, AllocError> {
     let text = fault_text(alloc, fault)?;
-    task.said(alloc, text.as_str())
+    let what = match fault {
+        AskFault::Refused { .. } => text,
+        AskFault::OutOfMemory => format!(in alloc; "{text}; {TASK_LOSS}")?,
+        _ => format!(in alloc; "GetWorkflowExecutionHistory: {text}; {TASK_LOSS}")?,
+    };
+    task.describe(alloc, what.as_str())
 }
 
 /// Describes why the completion of a task with the results of its queries is too large, and what

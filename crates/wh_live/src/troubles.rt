@@ -5,7 +5,7 @@ ghost use Rattle.wh_live.specs.Private.Troubles.{HasFailed};
 
 use std::alloc::AllocError;
 use wh_client::Connection;
-use wh_ghost_list::GhostList;
+use wh_events::GhostList;
 
 /// How long a worker waits after the first failed poll, in milliseconds.
 const FIRST_WAIT: u64 = 100;

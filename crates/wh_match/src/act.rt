@@ -156,7 +156,7 @@ pub(crate) fn left_open(kind: OpenKind, id: &str, commands: &[Command]) -> bool
 }
 
 /// Returns whether one of the commands opens the thing, and a later one cancels it.
-pub(crate) fn withdrawn(kind: OpenKind, id: &str, commands: &[Command]) -> bool
+pub(crate) fn is_withdrawn(kind: OpenKind, id: &str, commands: &[Command]) -> bool
     ensures { result ≡ withdrawn (thing_of kind) id.now commands.now }
 {
     let mut opened = false;

@@ -5,7 +5,7 @@ ghost use Rattle.wh_machines.specs.Lookups.{thing_of};
 ghost use Rattle.wh_match.specs.Private.Faults.{still_open_by, is_late_by, is_canceled_by, opening_fault_by};
 ghost use Rattle.wh_match.specs.Private.Faults.{cancel_fault_by};
 
-use crate::act::{left_open, some_cancels, some_opens, withdrawn};
+use crate::act::{is_withdrawn, left_open, some_cancels, some_opens};
 use crate::standing::Standing;
 use wh_events::OpenKind;
 use wh_workflow::{Command, WorkflowFault};
@@ -45,7 +45,7 @@ pub(crate) fn opening_fault(
 {
     if still_open(standing, earlier, kind, id) {
         Some(WorkflowFault::IdInUse)
-    } else if withdrawn(kind, id, earlier) {
+    } else if is_withdrawn(kind, id, earlier) {
         Some(WorkflowFault::IdReused)
     } else {
         None

@@ -157,7 +157,7 @@ impl Script {
     /// openings that a later command cancels together with the next cancel of each, and the late
     /// cancels, which came after an outside event of this activation had closed what they cancel.
     /// Fails with `OutOfMemory` if the allocator refused memory; the commands are dropped.
-    pub fn reduced(self) -> Result<Vec<Command>, OutOfMemory>
+    pub fn reduce(self) -> Result<Vec<Command>, OutOfMemory>
         ensures { IfOk result (λ sent. sent.items ≡ reduced_by self.late self.issued) }
     {
         sent_commands(self.alloc, self.late.as_slice(), self.issued.as_slice())

@@ -1,13 +1,13 @@
 -- Counts as a line.
 use Rattle.std.specs.Prelude.{ℕ, Option, Some, None, List, [], ◌++◌, codes, decimal}
-use Rattle.wh_metrics.specs.declared.metrics.Held.{Held}
+use Rattle.wh_metrics.specs.declared.metrics.Gauges.{Gauges}
 use Rattle.wh_metrics.specs.declared.metrics.Metrics.{Metrics}
-use Rattle.wh_metrics.specs.declared.metrics.Slots.{Slots}
+use Rattle.wh_metrics.specs.declared.metrics.TaskSlots.{TaskSlots}
 use Rattle.wh_metrics.specs.declared.metrics.TaskTimes.{TaskTimes}
 use Rattle.wh_metrics.specs.Times.{milliseconds_text}
 
 -- `in hand <in hand>, cached <runs> runs with <weight> events and KiB of input, `, or nothing if it is not known
-abbrev pub held_text : Option Held → List ℕ
+abbrev pub held_text : Option Gauges → List ℕ
 held_text None = []
 held_text (Some held) =
     codes "in hand " ++ (decimal held.in_hand ++ (codes ", cached " ++ (decimal held.cached
@@ -48,13 +48,13 @@ abbrev pub next : List ℕ → List ℕ → List ℕ
 next key value = codes "," ++ member key value
 
 -- `{"used":<used>,"available":<available>}`
-abbrev pub slots_json : Slots → List ℕ
+abbrev pub slots_json : TaskSlots → List ℕ
 slots_json slots =
     codes "{" ++ (member (codes "used") (decimal slots.used)
     ++ (next (codes "available") (decimal slots.available) ++ codes "}"))
 
 -- what the host holds, if it is known: tasks, the runs of the cache and their weight, and slots
-abbrev pub held_json : Option Held → List ℕ
+abbrev pub held_json : Option Gauges → List ℕ
 held_json None = []
 held_json (Some held) =
     next (codes "inHand") (decimal held.in_hand)

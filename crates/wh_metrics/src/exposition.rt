@@ -1,247 +1,126 @@
 //! Counts in the form that Prometheus reads.
 
-ghost use Rattle.std.specs.Prelude.{◌≡◌, Some, codes};
+ghost use Rattle.std.specs.Prelude.{Some};
 ghost use Rattle.wh_metrics.specs.Labels.{labels_text};
-ghost use Rattle.wh_metrics.specs.Exposition.{cache_text, cached_text, head_text, hits_text, holdings_text};
-ghost use Rattle.wh_metrics.specs.Exposition.{metrics_text, pair_text, polls_text, sample_text, single_text};
-ghost use Rattle.wh_metrics.specs.Exposition.{longest_text, seconds_sample, slots_text, summaries_text};
-ghost use Rattle.wh_metrics.specs.Exposition.{summary_text, tasks_text, times_text};
+ghost use Rattle.wh_metrics.specs.Exposition.{amount_text, head_text, holdings_text, kinds_text, metrics_text};
+ghost use Rattle.wh_metrics.specs.Exposition.{sample_text, single_text, slots_text, summary_text, tasks_text};
+ghost use Rattle.wh_metrics.specs.Exposition.{times_text, totals_text};
 
 use crate::labels::WorkerLabels;
-use crate::metrics::{Held, Metrics, TaskTimes};
+use crate::metrics::{Gauges, Metrics, TaskTimes};
 use crate::times::Seconds;
 use std::fmt;
 
 /// What stands before the samples of a metric: what it means, and its type.
 #[derive(Clone, Copy)]
-struct Head<'a> {
+struct MetricMetadata<'a> {
     name: &'a str,
     kind: &'a str,
     help: &'a str,
 }
 
-impl fmt::Display for Head<'_> {
+impl fmt::Display for MetricMetadata<'_> {
     ghost output = { λ h. Some (head_text h.name.now h.kind.now h.help.now) };
 
     fn fmt<W: fmt::Write>(&self, f: &mut fmt::Formatter<W>) -> fmt::Result {
-        let Head { name, kind, help } = *self;
+        let MetricMetadata { name, kind, help } = *self;
         write!(f, "# HELP {name} {help}\n# TYPE {name} {kind}\n")
     }
 }
 
-/// A sample of a metric, with labels after those of the process.
+/// What a sample says.
+#[derive(Clone, Copy)]
+enum Amount {
+    /// How many there are.
+    Count(u64),
+    /// A length of time in microseconds. It is shown in seconds.
+    Time(u64),
+}
+
+impl fmt::Display for Amount {
+    ghost output = { λ a. Some (amount_text a) };
+
+    fn fmt<W: fmt::Write>(&self, f: &mut fmt::Formatter<W>) -> fmt::Result {
+        match *self {
+            Amount::Count(count) => write!(f, "{count}"),
+            Amount::Time(microseconds) => {
+                let seconds = Seconds(microseconds);
+                write!(f, "{seconds}")
+            }
+        }
+    }
+}
+
+/// A sample of a metric, with a label after those of the process, if it has one of its own.
 #[derive(Clone, Copy)]
 struct Sample<'a> {
     name: &'a str,
     labels: WorkerLabels<'a>,
     more: &'a str,
-    value: u64,
+    amount: Amount,
 }
 
 impl fmt::Display for Sample<'_> {
     ghost output = { λ s. Some (sample_text s.name.now
-        (labels_text s.labels.namespace.now s.labels.task_queue.now s.labels.identity.now) s.more.now s.value) };
+        (labels_text s.labels.namespace.now s.labels.task_queue.now s.labels.identity.now) s.more.now s.amount) };
 
     fn fmt<W: fmt::Write>(&self, f: &mut fmt::Formatter<W>) -> fmt::Result {
         let Sample {
             name,
             labels,
             more,
-            value,
+            amount,
         } = *self;
-        write!(f, "{name}{{{labels}{more}}} {value}\n")
+        write!(f, "{name}{{{labels}{more}}} {amount}\n")
     }
 }
 
-/// A metric of one sample that only rises.
-fn counter<'a>(labels: WorkerLabels<'a>, name: &'a str, help: &'a str, value: u64) -> Single<'a>
-    ensures { single_text result.head.name.now result.head.kind.now result.head.help.now
-        (labels_text result.labels.namespace.now result.labels.task_queue.now result.labels.identity.now) result.value
-        ≡ single_text name.now (codes "counter") help.now
-        (labels_text labels.entry.namespace.now labels.entry.task_queue.now labels.entry.identity.now) value }
-{
-    let kind = "counter";
-    Single {
-        head: Head { name, kind, help },
-        labels,
-        value,
-    }
-}
+/// The type of a metric that only rises.
+const COUNTER: &str = "counter";
 
-/// A metric of one sample that rises and falls.
-fn gauge<'a>(labels: WorkerLabels<'a>, name: &'a str, help: &'a str, value: u64) -> Single<'a>
-    ensures { single_text result.head.name.now result.head.kind.now result.head.help.now
-        (labels_text result.labels.namespace.now result.labels.task_queue.now result.labels.identity.now) result.value
-        ≡ single_text name.now (codes "gauge") help.now
-        (labels_text labels.entry.namespace.now labels.entry.task_queue.now labels.entry.identity.now) value }
-{
-    let kind = "gauge";
-    Single {
-        head: Head { name, kind, help },
-        labels,
-        value,
-    }
-}
+/// The type of a metric that rises and falls.
+const GAUGE: &str = "gauge";
 
 /// A metric of one sample.
 #[derive(Clone, Copy)]
 struct Single<'a> {
-    head: Head<'a>,
     labels: WorkerLabels<'a>,
-    value: u64,
+    kind: &'a str,
+    name: &'a str,
+    help: &'a str,
+    count: u64,
 }
 
 impl fmt::Display for Single<'_> {
-    ghost output = { λ s. Some (single_text s.head.name.now s.head.kind.now s.head.help.now
-        (labels_text s.labels.namespace.now s.labels.task_queue.now s.labels.identity.now) s.value) };
+    ghost output = { λ s. Some (single_text s.name.now s.kind.now s.help.now
+        (labels_text s.labels.namespace.now s.labels.task_queue.now s.labels.identity.now) s.count) };
 
     fn fmt<W: fmt::Write>(&self, f: &mut fmt::Formatter<W>) -> fmt::Result {
-        let head = self.head;
+        let Single {
+            labels,
+            kind,
+            name,
+            help,
+            count,
+        } = *self;
+        let head = MetricMetadata { name, kind, help };
         let sample = Sample {
-            name: head.name,
-            labels: self.labels,
+            name,
+            labels,
             more: "",
-            value: self.value,
+            amount: Amount::Count(count),
         };
         write!(f, "{head}{sample}")
     }
 }
 
-/// A metric of two samples, each with a label of its own.
+/// A metric with a sample for each kind of tasks.
 #[derive(Clone, Copy)]
-struct Pair<'a> {
-    head: Head<'a>,
+struct ByKind<'a> {
+    head: MetricMetadata<'a>,
     labels: WorkerLabels<'a>,
-    first: &'a str,
-    one: u64,
-    second: &'a str,
-    other: u64,
-}
-
-impl fmt::Display for Pair<'_> {
-    ghost output = { λ p. Some (pair_text p.head.name.now p.head.kind.now p.head.help.now
-        (labels_text p.labels.namespace.now p.labels.task_queue.now p.labels.identity.now)
-        p.first.now p.one p.second.now p.other) };
-
-    fn fmt<W: fmt::Write>(&self, f: &mut fmt::Formatter<W>) -> fmt::Result {
-        let head = self.head;
-        let first = Sample {
-            name: head.name,
-            labels: self.labels,
-            more: self.first,
-            value: self.one,
-        };
-        let second = Sample {
-            name: head.name,
-            labels: self.labels,
-            more: self.second,
-            value: self.other,
-        };
-        write!(f, "{head}{first}{second}")
-    }
-}
-
-/// Tasks by their outcome.
-#[derive(Clone, Copy)]
-struct Tasks<'a> {
-    labels: WorkerLabels<'a>,
-    metrics: Metrics,
-}
-
-impl fmt::Display for Tasks<'_> {
-    ghost output = { λ t. Some (tasks_text
-        (labels_text t.labels.namespace.now t.labels.task_queue.now t.labels.identity.now) t.metrics) };
-
-    fn fmt<W: fmt::Write>(&self, f: &mut fmt::Formatter<W>) -> fmt::Result {
-        let Tasks { labels, metrics } = *self;
-        let name = "wfhost_tasks_total";
-        let head = Head {
-            name,
-            kind: "counter",
-            help: "Tasks that are over, by what became of them.",
-        };
-        let completed = Sample {
-            name,
-            labels,
-            more: ",outcome=\"completed\"",
-            value: metrics.completed,
-        };
-        let failed = Sample {
-            name,
-            labels,
-            more: ",outcome=\"failed\"",
-            value: metrics.failed,
-        };
-        let not_found = Sample {
-            name,
-            labels,
-            more: ",outcome=\"not_found\"",
-            value: metrics.not_found,
-        };
-        let refused = Sample {
-            name,
-            labels,
-            more: ",outcome=\"refused\"",
-            value: metrics.refused,
-        };
-        write!(f, "{head}{completed}{failed}{not_found}{refused}")
-    }
-}
-
-/// Workflow tasks with a cached run, and without one.
-#[derive(Clone, Copy)]
-struct Hits<'a> {
-    labels: WorkerLabels<'a>,
-    metrics: Metrics,
-}
-
-impl fmt::Display for Hits<'_> {
-    ghost output = { λ t. Some (hits_text
-        (labels_text t.labels.namespace.now t.labels.task_queue.now t.labels.identity.now) t.metrics) };
-
-    fn fmt<W: fmt::Write>(&self, f: &mut fmt::Formatter<W>) -> fmt::Result {
-        let hits = counter(
-            self.labels,
-            "wfhost_sticky_cache_hit_total",
-            "Workflow tasks that were answered from a cached run.",
-            self.metrics.hits,
-        );
-        let misses = counter(
-            self.labels,
-            "wfhost_sticky_cache_miss_total",
-            "Workflow tasks that were answered without a cached run.",
-            self.metrics.misses,
-        );
-        write!(f, "{hits}{misses}")
-    }
-}
-
-/// Polls, and those that gave no task.
-#[derive(Clone, Copy)]
-struct Polls<'a> {
-    labels: WorkerLabels<'a>,
-    metrics: Metrics,
-}
-
-impl fmt::Display for Polls<'_> {
-    ghost output = { λ t. Some (polls_text
-        (labels_text t.labels.namespace.now t.labels.task_queue.now t.labels.identity.now) t.metrics) };
-
-    fn fmt<W: fmt::Write>(&self, f: &mut fmt::Formatter<W>) -> fmt::Result {
-        let polls = counter(
-            self.labels,
-            "wfhost_polls_total",
-            "Polls that got a result or an error.",
-            self.metrics.polls,
-        );
-        let empty = counter(
-            self.labels,
-            "wfhost_polls_empty_total",
-            "Polls that gave no task.",
-            self.metrics.empty_polls,
-        );
-        write!(f, "{polls}{empty}")
-    }
+    workflow: Amount,
+    activity: Amount,
 }
 
 /// The label of workflow tasks.
@@ -250,28 +129,68 @@ const WORKFLOW: &str = ",worker_type=\"WorkflowWorker\"";
 /// The label of activity tasks.
 const ACTIVITY: &str = ",worker_type=\"ActivityWorker\"";
 
-/// A sample in seconds, of so many microseconds.
-#[derive(Clone, Copy)]
-struct SecondsSample<'a> {
-    name: &'a str,
-    labels: WorkerLabels<'a>,
-    more: &'a str,
-    microseconds: u64,
-}
-
-impl fmt::Display for SecondsSample<'_> {
-    ghost output = { λ s. Some (seconds_sample s.name.now
-        (labels_text s.labels.namespace.now s.labels.task_queue.now s.labels.identity.now) s.more.now s.microseconds) };
+impl fmt::Display for ByKind<'_> {
+    ghost output = { λ k. Some (kinds_text k.head.name.now k.head.kind.now k.head.help.now
+        (labels_text k.labels.namespace.now k.labels.task_queue.now k.labels.identity.now) k.workflow k.activity) };
 
     fn fmt<W: fmt::Write>(&self, f: &mut fmt::Formatter<W>) -> fmt::Result {
-        let SecondsSample {
+        let head = self.head;
+        let workflow = Sample {
+            name: head.name,
+            labels: self.labels,
+            more: WORKFLOW,
+            amount: self.workflow,
+        };
+        let activity = Sample {
+            more: ACTIVITY,
+            amount: self.activity,
+            ..workflow
+        };
+        write!(f, "{head}{workflow}{activity}")
+    }
+}
+
+/// Tasks by their outcome.
+#[derive(Clone, Copy)]
+struct TaskOutcomes<'a> {
+    labels: WorkerLabels<'a>,
+    metrics: Metrics,
+}
+
+impl fmt::Display for TaskOutcomes<'_> {
+    ghost output = { λ t. Some (tasks_text
+        (labels_text t.labels.namespace.now t.labels.task_queue.now t.labels.identity.now) t.metrics) };
+
+    fn fmt<W: fmt::Write>(&self, f: &mut fmt::Formatter<W>) -> fmt::Result {
+        let TaskOutcomes { labels, metrics } = *self;
+        let name = "wfhost_tasks_total";
+        let head = MetricMetadata {
+            name,
+            kind: COUNTER,
+            help: "Tasks that are over, by what became of them.",
+        };
+        let completed = Sample {
             name,
             labels,
-            more,
-            ..
-        } = *self;
-        let seconds = Seconds(self.microseconds);
-        write!(f, "{name}{{{labels}{more}}} {seconds}\n")
+            more: ",outcome=\"completed\"",
+            amount: Amount::Count(metrics.completed),
+        };
+        let failed = Sample {
+            more: ",outcome=\"failed\"",
+            amount: Amount::Count(metrics.failed),
+            ..completed
+        };
+        let not_found = Sample {
+            more: ",outcome=\"not_found\"",
+            amount: Amount::Count(metrics.not_found),
+            ..completed
+        };
+        let refused = Sample {
+            more: ",outcome=\"refused\"",
+            amount: Amount::Count(metrics.refused),
+            ..completed
+        };
+        write!(f, "{head}{completed}{failed}{not_found}{refused}")
     }
 }
 
@@ -288,41 +207,35 @@ impl fmt::Display for Summary<'_> {
         (labels_text s.labels.namespace.now s.labels.task_queue.now s.labels.identity.now) s.more.now s.times) };
 
     fn fmt<W: fmt::Write>(&self, f: &mut fmt::Formatter<W>) -> fmt::Result {
-        let Summary {
-            labels,
-            more,
-            times,
-        } = *self;
-        let sum = SecondsSample {
+        let sum = Sample {
             name: "wfhost_task_seconds_sum",
-            labels,
-            more,
-            microseconds: times.sum,
+            labels: self.labels,
+            more: self.more,
+            amount: Amount::Time(self.times.sum),
         };
         let count = Sample {
             name: "wfhost_task_seconds_count",
-            labels,
-            more,
-            value: times.count,
+            amount: Amount::Count(self.times.count),
+            ..sum
         };
         write!(f, "{sum}{count}")
     }
 }
 
-/// How long tasks took, by their kind.
+/// How long tasks took, by their kind, and the longest of each kind.
 #[derive(Clone, Copy)]
-struct Summaries<'a> {
+struct Times<'a> {
     labels: WorkerLabels<'a>,
     metrics: Metrics,
 }
 
-impl fmt::Display for Summaries<'_> {
-    ghost output = { λ t. Some (summaries_text
+impl fmt::Display for Times<'_> {
+    ghost output = { λ t. Some (times_text
         (labels_text t.labels.namespace.now t.labels.task_queue.now t.labels.identity.now) t.metrics) };
 
     fn fmt<W: fmt::Write>(&self, f: &mut fmt::Formatter<W>) -> fmt::Result {
-        let Summaries { labels, metrics } = *self;
-        let head = Head {
+        let Times { labels, metrics } = *self;
+        let head = MetricMetadata {
             name: "wfhost_task_seconds",
             kind: "summary",
             help: "How long tasks took, from the poll to the acknowledged answer.",
@@ -337,113 +250,17 @@ impl fmt::Display for Summaries<'_> {
             more: ACTIVITY,
             times: metrics.activity_times,
         };
-        write!(f, "{head}{workflow}{activity}")
-    }
-}
-
-/// How long the longest task of each kind took.
-#[derive(Clone, Copy)]
-struct Longest<'a> {
-    labels: WorkerLabels<'a>,
-    metrics: Metrics,
-}
-
-impl fmt::Display for Longest<'_> {
-    ghost output = { λ t. Some (longest_text
-        (labels_text t.labels.namespace.now t.labels.task_queue.now t.labels.identity.now) t.metrics) };
-
-    fn fmt<W: fmt::Write>(&self, f: &mut fmt::Formatter<W>) -> fmt::Result {
-        let Longest { labels, metrics } = *self;
-        let name = "wfhost_task_longest_seconds";
-        let head = Head {
-            name,
-            kind: "gauge",
-            help: "How long the longest task took.",
-        };
-        let workflow = SecondsSample {
-            name,
+        let longest = ByKind {
+            head: MetricMetadata {
+                name: "wfhost_task_longest_seconds",
+                kind: GAUGE,
+                help: "How long the longest task took.",
+            },
             labels,
-            more: WORKFLOW,
-            microseconds: metrics.workflow_times.longest,
+            workflow: Amount::Time(metrics.workflow_times.longest),
+            activity: Amount::Time(metrics.activity_times.longest),
         };
-        let activity = SecondsSample {
-            name,
-            labels,
-            more: ACTIVITY,
-            microseconds: metrics.activity_times.longest,
-        };
-        write!(f, "{head}{workflow}{activity}")
-    }
-}
-
-/// How long tasks took, and the longest of them.
-#[derive(Clone, Copy)]
-struct Times<'a> {
-    labels: WorkerLabels<'a>,
-    metrics: Metrics,
-}
-
-impl fmt::Display for Times<'_> {
-    ghost output = { λ t. Some (times_text
-        (labels_text t.labels.namespace.now t.labels.task_queue.now t.labels.identity.now) t.metrics) };
-
-    fn fmt<W: fmt::Write>(&self, f: &mut fmt::Formatter<W>) -> fmt::Result {
-        let Times { labels, metrics } = *self;
-        let summaries = Summaries { labels, metrics };
-        let longest = Longest { labels, metrics };
-        write!(f, "{summaries}{longest}")
-    }
-}
-
-/// What the cache holds.
-#[derive(Clone, Copy)]
-struct Cached<'a> {
-    labels: WorkerLabels<'a>,
-    held: Held,
-}
-
-impl fmt::Display for Cached<'_> {
-    ghost output = { λ t. Some (cached_text
-        (labels_text t.labels.namespace.now t.labels.task_queue.now t.labels.identity.now) t.held) };
-
-    fn fmt<W: fmt::Write>(&self, f: &mut fmt::Formatter<W>) -> fmt::Result {
-        let runs = gauge(
-            self.labels,
-            "wfhost_sticky_cache_size",
-            "Runs in the sticky cache.",
-            self.held.cached,
-        );
-        let events = gauge(
-            self.labels,
-            "wfhost_sticky_cache_events",
-            "Weight of the cached runs: one for each event and each whole KiB of a run's input.",
-            self.held.cached_events,
-        );
-        write!(f, "{runs}{events}")
-    }
-}
-
-/// Tasks that are being processed, and what the cache holds.
-#[derive(Clone, Copy)]
-struct Cache<'a> {
-    labels: WorkerLabels<'a>,
-    held: Held,
-}
-
-impl fmt::Display for Cache<'_> {
-    ghost output = { λ t. Some (cache_text
-        (labels_text t.labels.namespace.now t.labels.task_queue.now t.labels.identity.now) t.held) };
-
-    fn fmt<W: fmt::Write>(&self, f: &mut fmt::Formatter<W>) -> fmt::Result {
-        let Cache { labels, held } = *self;
-        let in_hand = gauge(
-            labels,
-            "wfhost_tasks_in_hand",
-            "Tasks in hand.",
-            held.in_hand,
-        );
-        let cached = Cached { labels, held };
-        write!(f, "{in_hand}{cached}")
+        write!(f, "{head}{workflow}{activity}{longest}")
     }
 }
 
@@ -451,7 +268,7 @@ impl fmt::Display for Cache<'_> {
 #[derive(Clone, Copy)]
 struct SlotUse<'a> {
     labels: WorkerLabels<'a>,
-    held: Held,
+    held: Gauges,
 }
 
 impl fmt::Display for SlotUse<'_> {
@@ -459,29 +276,30 @@ impl fmt::Display for SlotUse<'_> {
         (labels_text t.labels.namespace.now t.labels.task_queue.now t.labels.identity.now) t.held) };
 
     fn fmt<W: fmt::Write>(&self, f: &mut fmt::Formatter<W>) -> fmt::Result {
-        let used = Pair {
-            head: Head {
+        let Gauges {
+            workflow,
+            activity,
+            ..
+        } = self.held;
+        let used = ByKind {
+            head: MetricMetadata {
                 name: "wfhost_worker_task_slots_used",
-                kind: "gauge",
+                kind: GAUGE,
                 help: "Task slots that a task has, or a poll.",
             },
             labels: self.labels,
-            first: WORKFLOW,
-            one: self.held.workflow.used,
-            second: ACTIVITY,
-            other: self.held.activity.used,
+            workflow: Amount::Count(workflow.used),
+            activity: Amount::Count(activity.used),
         };
-        let available = Pair {
-            head: Head {
+        let available = ByKind {
+            head: MetricMetadata {
                 name: "wfhost_worker_task_slots_available",
-                kind: "gauge",
                 help: "Task slots that are free.",
+                ..used.head
             },
-            labels: self.labels,
-            first: WORKFLOW,
-            one: self.held.workflow.available,
-            second: ACTIVITY,
-            other: self.held.activity.available,
+            workflow: Amount::Count(workflow.available),
+            activity: Amount::Count(activity.available),
+            ..used
         };
         write!(f, "{used}{available}")
     }
@@ -491,7 +309,7 @@ impl fmt::Display for SlotUse<'_> {
 #[derive(Clone, Copy)]
 struct Holdings<'a> {
     labels: WorkerLabels<'a>,
-    held: Option<Held>,
+    held: Option<Gauges>,
 }
 
 impl fmt::Display for Holdings<'_> {
@@ -503,9 +321,74 @@ impl fmt::Display for Holdings<'_> {
             return Ok(());
         };
         let labels = self.labels;
-        let cache = Cache { labels, held };
+        let in_hand = Single {
+            labels,
+            kind: GAUGE,
+            name: "wfhost_tasks_in_hand",
+            help: "Tasks in hand.",
+            count: held.in_hand,
+        };
+        let runs = Single {
+            labels,
+            kind: GAUGE,
+            name: "wfhost_sticky_cache_size",
+            help: "Runs in the sticky cache.",
+            count: held.cached,
+        };
+        let events = Single {
+            labels,
+            kind: GAUGE,
+            name: "wfhost_sticky_cache_events",
+            help: "Weight of the cached runs: one for each event and each whole KiB of a run's input.",
+            count: held.cached_events,
+        };
         let slots = SlotUse { labels, held };
-        write!(f, "{cache}{slots}")
+        write!(f, "{in_hand}{runs}{events}{slots}")
+    }
+}
+
+/// Workflow tasks with a cached run and without one, and polls.
+#[derive(Clone, Copy)]
+struct Totals<'a> {
+    labels: WorkerLabels<'a>,
+    metrics: Metrics,
+}
+
+impl fmt::Display for Totals<'_> {
+    ghost output = { λ t. Some (totals_text
+        (labels_text t.labels.namespace.now t.labels.task_queue.now t.labels.identity.now) t.metrics) };
+
+    fn fmt<W: fmt::Write>(&self, f: &mut fmt::Formatter<W>) -> fmt::Result {
+        let Totals { labels, metrics } = *self;
+        let hits = Single {
+            labels,
+            kind: COUNTER,
+            name: "wfhost_sticky_cache_hit_total",
+            help: "Workflow tasks that were answered from a cached run.",
+            count: metrics.hits,
+        };
+        let misses = Single {
+            labels,
+            kind: COUNTER,
+            name: "wfhost_sticky_cache_miss_total",
+            help: "Workflow tasks that were answered without a cached run.",
+            count: metrics.misses,
+        };
+        let polls = Single {
+            labels,
+            kind: COUNTER,
+            name: "wfhost_polls_total",
+            help: "Polls that got a result or an error.",
+            count: metrics.polls,
+        };
+        let empty = Single {
+            labels,
+            kind: COUNTER,
+            name: "wfhost_polls_empty_total",
+            help: "Polls that gave no task.",
+            count: metrics.empty_polls,
+        };
+        write!(f, "{hits}{misses}{polls}{empty}")
     }
 }
 
@@ -527,14 +410,13 @@ impl fmt::Display for Exposition<'_> {
 
     fn fmt<W: fmt::Write>(&self, f: &mut fmt::Formatter<W>) -> fmt::Result {
         let Exposition { labels, metrics } = *self;
-        let tasks = Tasks { labels, metrics };
-        let hits = Hits { labels, metrics };
-        let polls = Polls { labels, metrics };
+        let tasks = TaskOutcomes { labels, metrics };
+        let totals = Totals { labels, metrics };
         let times = Times { labels, metrics };
         let holdings = Holdings {
             labels,
             held: metrics.held,
         };
-        write!(f, "{tasks}{hits}{polls}{times}{holdings}")
+        write!(f, "{tasks}{totals}{times}{holdings}")
     }
 }

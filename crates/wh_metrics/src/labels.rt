@@ -32,9 +32,9 @@ fn escape_of(c: char) -> Option<&'static str>
 
 /// A character in the value of a label.
 #[derive(Clone, Copy)]
-struct EscapedChar(char);
+struct LabelChar(char);
 
-impl fmt::Display for EscapedChar {
+impl fmt::Display for LabelChar {
     ghost output = { λ e. Some (escaped_char e.0) };
 
     fn fmt<W: fmt::Write>(&self, f: &mut fmt::Formatter<W>) -> fmt::Result {
@@ -52,7 +52,7 @@ fn write_escaped<W: fmt::Write>(text: &str, f: &mut fmt::Formatter<W>) -> fmt::R
     ensures { DisplaysOnOk W.write_str_gives f.old result (Some (escaped text.now)) f.new }
 {
     for c in text.chars() {
-        let c = EscapedChar(c);
+        let c = LabelChar(c);
         write!(f, "{c}")?;
     }
     Ok(())
@@ -60,9 +60,9 @@ fn write_escaped<W: fmt::Write>(text: &str, f: &mut fmt::Formatter<W>) -> fmt::R
 
 /// The value of a label.
 #[derive(Drop)]
-struct Escaped<'a>(&'a str);
+struct LabelValue<'a>(&'a str);
 
-impl fmt::Display for Escaped<'_> {
+impl fmt::Display for LabelValue<'_> {
     ghost output = { λ e. Some (escaped e.0.now) };
 
     fn fmt<W: fmt::Write>(&self, f: &mut fmt::Formatter<W>) -> fmt::Result {
@@ -82,7 +82,7 @@ impl fmt::Display for Label<'_> {
 
     fn fmt<W: fmt::Write>(&self, f: &mut fmt::Formatter<W>) -> fmt::Result {
         let name = self.name;
-        let value = Escaped(self.value);
+        let value = LabelValue(self.value);
         write!(f, "{name}=\"{value}\"")
     }
 }

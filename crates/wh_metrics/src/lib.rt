@@ -11,4 +11,4 @@ mod times;
 pub use exposition::Exposition;
 pub use labels::WorkerLabels;
 pub use lines::{CountsLine, JsonLine};
-pub use metrics::{Held, Metrics, Slots, TaskTimes};
+pub use metrics::{Gauges, Metrics, TaskSlots, TaskTimes};

@@ -4,13 +4,13 @@ ghost use Rattle.std.specs.Prelude.{Some};
 ghost use Rattle.wh_metrics.specs.Lines.{counts_text, held_json, held_text, json_text, kinds_json};
 ghost use Rattle.wh_metrics.specs.Lines.{kinds_text, outcomes_text, slots_json, times_json, times_text};
 
-use crate::metrics::{Held, Metrics, Slots, TaskTimes};
+use crate::metrics::{Gauges, Metrics, TaskSlots, TaskTimes};
 use crate::times::Milliseconds;
 use std::fmt;
 
 /// What the host holds, in words, with a comma behind it; nothing if that is not known.
 #[derive(Clone, Copy)]
-struct HeldText(Option<Held>);
+struct HeldText(Option<Gauges>);
 
 impl fmt::Display for HeldText {
     ghost output = { λ t. Some (held_text t.0) };
@@ -19,7 +19,7 @@ impl fmt::Display for HeldText {
         let Some(held) = self.0 else {
             return Ok(());
         };
-        let Held {
+        let Gauges {
             in_hand,
             cached,
             cached_events,
@@ -112,13 +112,13 @@ impl fmt::Display for CountsLine {
 
 /// The slots of a kind, as an object of JSON.
 #[derive(Clone, Copy)]
-struct SlotsJson(Slots);
+struct SlotsJson(TaskSlots);
 
 impl fmt::Display for SlotsJson {
     ghost output = { λ s. Some (slots_json s.0) };
 
     fn fmt<W: fmt::Write>(&self, f: &mut fmt::Formatter<W>) -> fmt::Result {
-        let Slots { used, available } = self.0;
+        let TaskSlots { used, available } = self.0;
         write!(f, "{{\"used\":{used},\"available\":{available}}}")
     }
 }
@@ -126,7 +126,7 @@ impl fmt::Display for SlotsJson {
 /// What the host holds, as members of an object of JSON, each with a comma before it; none if that
 /// is not known.
 #[derive(Clone, Copy)]
-struct HeldJson(Option<Held>);
+struct HeldJson(Option<Gauges>);
 
 impl fmt::Display for HeldJson {
     ghost output = { λ t. Some (held_json t.0) };
@@ -135,7 +135,7 @@ impl fmt::Display for HeldJson {
         let Some(held) = self.0 else {
             return Ok(());
         };
-        let Held {
+        let Gauges {
             in_hand,
             cached,
             cached_events,

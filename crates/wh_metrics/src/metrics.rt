@@ -2,7 +2,7 @@
 
 /// The task slots of a kind.
 #[derive(Clone, Copy, PartialEq, Eq, Debug)]
-pub struct Slots {
+pub struct TaskSlots {
     /// Those that a task has, or a poll.
     pub used: u64,
     /// Those that are free.
@@ -23,7 +23,7 @@ pub struct TaskTimes {
 
 /// What a host holds now.
 #[derive(Clone, Copy, PartialEq, Eq, Debug)]
-pub struct Held {
+pub struct Gauges {
     /// Tasks that are being processed, of both kinds.
     pub in_hand: u64,
     /// Runs in the sticky cache.
@@ -31,9 +31,9 @@ pub struct Held {
     /// Weight of the cached runs: one for each event and each whole KiB of a run's input.
     pub cached_events: u64,
     /// The slots of workflow tasks.
-    pub workflow: Slots,
+    pub workflow: TaskSlots,
     /// The slots of activity tasks.
-    pub activity: Slots,
+    pub activity: TaskSlots,
 }
 
 /// What the workers of a host have counted since they began, and what the host holds now.
@@ -45,7 +45,7 @@ pub struct Metrics {
     /// One that is given up as it comes is none of them.
     pub failed: u64,
     /// What the host holds, if that is known.
-    pub held: Option<Held>,
+    pub held: Option<Gauges>,
     /// Workflow tasks that were answered from a cached run.
     pub hits: u64,
     /// Workflow tasks that were answered without one.

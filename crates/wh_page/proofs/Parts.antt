@@ -4,7 +4,7 @@ use Rattle.std.specs.List.{list_any}
 use Rattle.std.proofs.lemmas.List.{length-take}
 use Rattle.wh_html.specs.Html.{Html, ◌⊕◌, bytes, each}
 use Rattle.wh_timeline.specs.declared.axis.Stop.{Stop}
-use Rattle.wh_timeline.specs.declared.page.Line.{Line}
+use Rattle.wh_timeline.specs.declared.page.TaskLine.{TaskLine}
 use Rattle.wh_timeline.specs.declared.page.Page.{Page}
 use Rattle.wh_timeline.specs.Views.{shown_lanes, shown_tasks}
 use Rattle.wh_timeline.proofs.Shown.{any-taken, any-below, position-any}
@@ -71,7 +71,7 @@ shows_its_parts stops page more =
     }
 
 -- the line of the fault
-line-shown : (lines : List Line) → list_any (λ line. is_fault line.side) lines ≡ true → list_any (λ line. is_fault line.side) (shown_lines lines) ≡ true
+line-shown : (lines : List TaskLine) → list_any (λ line. is_fault line.side) lines ≡ true → list_any (λ line. is_fault line.side) (shown_lines lines) ≡ true
 line-shown lines h =
     let at = position-any (λ line. is_fault line.side) lines 0 h in
     let below = any-below (λ line. is_fault line.side) lines h in

@@ -12,7 +12,7 @@ use Rattle.wh_timeline.specs.declared.axis.Stop.{Stop}
 use Rattle.wh_timeline.specs.declared.page.Difference.{Difference}
 use Rattle.wh_timeline.specs.declared.page.Fact.{Fact}
 use Rattle.wh_timeline.specs.declared.page.Lane.{Lane}
-use Rattle.wh_timeline.specs.declared.page.Line.{Line}
+use Rattle.wh_timeline.specs.declared.page.TaskLine.{TaskLine}
 use Rattle.wh_timeline.specs.declared.page.Moment.{Moment}
 use Rattle.wh_timeline.specs.declared.page.Page.{Page}
 use Rattle.wh_timeline.specs.declared.page.Task.{Task}
@@ -96,7 +96,7 @@ number-alike : (event : Option ℕ) → IsClosed (number_html event)
 number-alike None = none
 number-alike (Some event) = mark _ (words _ (decimal-inner event))
 
-line-alike : (line : Line) → Alike false false (line_html line) (line_html (without_line line))
+line-alike : (line : TaskLine) → Alike false false (line_html line) (line_html (without_line line))
 unfolding line_html
 line-alike line =
     mark _ (word _ (side-inner line.side) (mark _ (word _ (side-inner line.side) (mark _ (both (number-alike line.event)
@@ -106,35 +106,35 @@ left-alike : (where-of : List ℕ) (left : ℕ) → list_all is_inner where-of �
 left-alike w left e = choose (left == 0) _ _ none (mark _ (num _ (word _ e (last _))))
 
 -- the lines that are shown
-before-fault : (lines : List Line) → position_or_len (λ line. is_fault line.side) (map without_line lines) ≡ position_or_len (λ line. is_fault line.side) lines
+before-fault : (lines : List TaskLine) → position_or_len (λ line. is_fault line.side) (map without_line lines) ≡ position_or_len (λ line. is_fault line.side) lines
 before-fault [] = refl
 before-fault (line ∷ lines) = ap (λ n. cond (not (is_fault line.side)) (1 + n) 0) (before-fault lines)
 
-left-same : (lines : List Line) → left_before (map without_line lines) ≡ left_before lines
+left-same : (lines : List TaskLine) → left_before (map without_line lines) ≡ left_before lines
 left-same lines = rw (before-fault lines, length-map lines without_line) refl
 
-after-same : (lines : List Line) → left_after (map without_line lines) ≡ left_after lines
+after-same : (lines : List TaskLine) → left_after (map without_line lines) ≡ left_after lines
 after-same lines = rw (before-fault lines, length-map lines without_line) refl
 
-lines-shown : (lines : List Line) → shown_lines (map without_line lines) ≡ map without_line (shown_lines lines)
+lines-shown : (lines : List TaskLine) → shown_lines (map without_line lines) ≡ map without_line (shown_lines lines)
 lines-shown lines = rw (left-same lines, drop-map without_line (left_before lines) lines, take-map without_line 40 (drop (left_before lines) lines)) refl
 
-before-alike : (lines : List Line) → Alike false false (left_html (codes " before") (left_before lines)) (left_html (codes " before") (left_before (map without_line lines)))
+before-alike : (lines : List TaskLine) → Alike false false (left_html (codes " before") (left_before lines)) (left_html (codes " before") (left_before (map without_line lines)))
 before-alike lines =
     subst (λ n. Alike false false (left_html (codes " before") (left_before lines)) (left_html (codes " before") n)) (sym (left-same lines))
     (left-alike _ (left_before lines) refl)
 
-after-alike : (lines : List Line) → Alike false false (left_html (codes " more") (left_after lines)) (left_html (codes " more") (left_after (map without_line lines)))
+after-alike : (lines : List TaskLine) → Alike false false (left_html (codes " more") (left_after lines)) (left_html (codes " more") (left_after (map without_line lines)))
 after-alike lines =
     subst (λ n. Alike false false (left_html (codes " more") (left_after lines)) (left_html (codes " more") n)) (sym (after-same lines))
     (left-alike _ (left_after lines) refl)
 
-rows-alike : (lines : List Line) → Alike false false (each line_html (shown_lines lines)) (each line_html (shown_lines (map without_line lines)))
+rows-alike : (lines : List TaskLine) → Alike false false (each line_html (shown_lines lines)) (each line_html (shown_lines (map without_line lines)))
 rows-alike lines =
     subst (λ ls. Alike false false (each line_html (shown_lines lines)) (each line_html ls)) (sym (lines-shown lines))
     (each-alike line_html without_line line-alike (shown_lines lines))
 
-lines-alike : (lines : List Line) → Alike false false (lines_html lines) (lines_html (map without_line lines))
+lines-alike : (lines : List TaskLine) → Alike false false (lines_html lines) (lines_html (map without_line lines))
 unfolding lines_html
 lines-alike lines = both (before-alike lines) (both (rows-alike lines) (after-alike lines))
 

@@ -3,7 +3,7 @@ use Rattle.std.specs.Prelude.{◌≡◌, ◌≤◌, ℕ, true, List, ◌++◌, l
 use Rattle.std.specs.List.{list_any}
 use Rattle.wh_html.specs.Html.{Html, bytes}
 use Rattle.wh_html.specs.Tags.{tags}
-use Rattle.wh_timeline.specs.declared.page.Line.{Line}
+use Rattle.wh_timeline.specs.declared.page.TaskLine.{TaskLine}
 use Rattle.wh_timeline.specs.declared.page.Page.{Page}
 use Rattle.wh_timeline.specs.declared.axis.Stop.{Stop}
 use Rattle.wh_timeline.specs.Without.{without_texts}
@@ -28,7 +28,7 @@ TextsAreNoTags =
 -- a task shows 40 lines at most, and one that has the fault, if there is one
 abbrev pub FaultHasALine : Type 0
 FaultHasALine =
-    (lines : List Line) → (length (shown_lines lines) ≤ 40)
+    (lines : List TaskLine) → (length (shown_lines lines) ≤ 40)
     × (list_any (λ line. is_fault line.side) lines ≡ true
     → list_any (λ line. is_fault line.side) (shown_lines lines) ≡ true)
 

@@ -1,6 +1,6 @@
 -- The tasks of a run, and the notes.
 use Rattle.std.specs.Prelude.{ℕ, ◌-◌, ◌==◌, Bool, true, false, min, if◌then◌else◌, Option, Some, None, unwrap_or, position, List, [], ◌∷◌, take, drop, codes, length}
-use Rattle.wh_timeline.specs.declared.page.Line.{Line}
+use Rattle.wh_timeline.specs.declared.page.TaskLine.{TaskLine}
 use Rattle.wh_timeline.specs.declared.page.Side.{Side}
 use Rattle.wh_timeline.specs.declared.page.Side.TheVariants.{Told, Gives, Recorded, Fault, Note}
 use Rattle.wh_timeline.specs.declared.page.Task.{Task}
@@ -14,7 +14,7 @@ number_html None = nothing
 number_html (Some event) = markup (codes "event ") ⊕ number event
 
 -- a line of a task
-unfoldable pub line_html : Line → Html
+unfoldable pub line_html : TaskLine → Html
 line_html line =
     markup (codes "<li class=\"")
     ⊕ plain (side_word line.side)
@@ -43,19 +43,19 @@ is_fault Note = false
 
 -- how many lines are left out before the 40 that are shown: 20 of these precede the first that has the fault, if there
 -- are as many; if no line has it, the first 40 are shown
-abbrev pub left_before : List Line → ℕ
+abbrev pub left_before : List TaskLine → ℕ
 left_before lines = min (unwrap_or (position (λ line. is_fault line.side) lines) 0 - 20) (length lines - 40)
 
 -- the lines that are shown
-abbrev pub shown_lines : List Line → List Line
+abbrev pub shown_lines : List TaskLine → List TaskLine
 shown_lines lines = take 40 (drop (left_before lines) lines)
 
 -- how many lines are left out after those that are shown
-abbrev pub left_after : List Line → ℕ
+abbrev pub left_after : List TaskLine → ℕ
 left_after lines = length lines - 40 - left_before lines
 
 -- the lines that are shown, and how many are left out before and after them
-unfoldable pub lines_html : List Line → Html
+unfoldable pub lines_html : List TaskLine → Html
 lines_html lines =
     left_html (codes " before") (left_before lines)
     ⊕ each line_html (shown_lines lines)

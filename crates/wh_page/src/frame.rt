@@ -56,9 +56,9 @@ fn verdict_class(good: Option<bool>) -> &'static str
 
 /// The verdict.
 #[derive(Drop)]
-struct Verdict<'a>(&'a Page);
+struct VerdictHeader<'a>(&'a Page);
 
-impl fmt::Display for Verdict<'_> {
+impl fmt::Display for VerdictHeader<'_> {
     ghost output = { λ v. Some (bytes (verdict_html v.0.now)) };
 
     #[tactic(auto, unfolding(crate::specs::Frames::verdict_html))]
@@ -183,7 +183,7 @@ impl fmt::Display for Frame<'_> {
     #[tactic(auto, unfolding(crate::specs::Frames::frame_html))]
     fn fmt<W: fmt::Write>(&self, f: &mut fmt::Formatter<W>) -> fmt::Result {
         let head = Head(self.0);
-        let verdict = Verdict(self.0);
+        let verdict = VerdictHeader(self.0);
         let facts = FactRows(self.0.facts.get());
         let difference = DifferencePart(&self.0.difference);
         write!(

@@ -14,6 +14,6 @@ mod tasks;
 mod writing;
 
 pub use wh_timeline::{
-    Axis, Difference, Fact, Kind, Lane, Line, Moment, Outcome, Page, Side, Task, axis_of,
+    Axis, Difference, Fact, Kind, Lane, Moment, Page, Side, Task, TaskLine, ThingOutcome, axis_of,
 };
 pub use writing::{write_body, write_end};

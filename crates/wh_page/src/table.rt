@@ -8,7 +8,7 @@ use crate::frame::NAME;
 use std::fmt;
 use wh_events::Text;
 use wh_html::{Escaped, Stamp};
-use wh_timeline::{Classes, Lane, Moment, took};
+use wh_timeline::{Classes, Lane, Moment, time_between};
 
 /// How many of all things are shown, and how many are left out.
 #[derive(Clone, Copy)]
@@ -67,7 +67,7 @@ impl fmt::Display for TookCell {
     fn fmt<W: fmt::Write>(&self, f: &mut fmt::Formatter<W>) -> fmt::Result {
         match self.1 {
             Some(ended) => {
-                let span = took(self.0, ended);
+                let span = time_between(self.0, ended);
                 write!(f, "<td class=\"time\">{span}</td>")
             }
             None => write!(f, "<td></td>"),
@@ -135,9 +135,9 @@ impl fmt::Display for RowHead<'_> {
 
 /// The row of a thing.
 #[derive(Drop)]
-struct Row<'a>(Option<Moment>, &'a Lane);
+struct ThingRow<'a>(Option<Moment>, &'a Lane);
 
-impl fmt::Display for Row<'_> {
+impl fmt::Display for ThingRow<'_> {
     ghost output = { λ r. Some (bytes (row_html r.0 r.1.now)) };
 
     #[tactic(auto, unfolding(crate::specs::Tables::row_html))]
@@ -162,14 +162,14 @@ impl fmt::Display for Row<'_> {
 
 /// The rows of things.
 #[derive(Drop)]
-struct Rows<'a>(Option<Moment>, &'a [Lane]);
+struct ThingRows<'a>(Option<Moment>, &'a [Lane]);
 
-impl fmt::Display for Rows<'_> {
+impl fmt::Display for ThingRows<'_> {
     ghost output = { λ r. Some (bytes (each (row_html r.0) r.1.now)) };
 
     fn fmt<W: fmt::Write>(&self, f: &mut fmt::Formatter<W>) -> fmt::Result {
         for lane in self.1 {
-            let row = Row(self.0, lane);
+            let row = ThingRow(self.0, lane);
             write!(f, "{row}")?;
         }
         Ok(())
@@ -178,13 +178,13 @@ impl fmt::Display for Rows<'_> {
 
 /// The table of the things that are shown, out of so many in all.
 #[derive(Drop)]
-pub(crate) struct Table<'a> {
+pub(crate) struct ThingTable<'a> {
     pub(crate) fault: Option<Moment>,
     pub(crate) lanes: &'a [Lane],
     pub(crate) total: usize,
 }
 
-impl fmt::Display for Table<'_> {
+impl fmt::Display for ThingTable<'_> {
     ghost output = { λ t. Some (bytes (table_html t.fault t.lanes.now t.total)) };
 
     #[tactic(auto, unfolding(crate::specs::Tables::table_html))]
@@ -193,7 +193,7 @@ impl fmt::Display for Table<'_> {
             shown: self.lanes.len(),
             total: self.total,
         };
-        let rows = Rows(self.fault, self.lanes);
+        let rows = ThingRows(self.fault, self.lanes);
         write!(
             f,
             "<section>\n<h2 id=\"things\">What was opened</h2>\n{count}<div class=\"scroll\" tabindex=\"0\" role=\"region\" aria-labelledby=\"things\">\n<table>\n<thead><tr><th scope=\"col\">Name</th><th scope=\"col\">Kind</th><th scope=\"col\">Opened</th><th scope=\"col\">Started</th><th scope=\"col\">Ended</th><th scope=\"col\">Took</th><th scope=\"col\">Outcome</th><th scope=\"col\">Attempts</th></tr></thead>\n<tbody>\n{rows}</tbody>\n</table>\n</div>\n</section>\n"

@@ -9,7 +9,7 @@ use crate::table::Count;
 use std::fmt;
 use wh_events::Text;
 use wh_html::{Escaped, Stamp};
-use wh_timeline::{Line, Side, Task, first_items};
+use wh_timeline::{Side, Task, TaskLine, first_items};
 
 /// The most lines of a task that are shown.
 const LINES: usize = 40;
@@ -34,7 +34,7 @@ impl fmt::Display for LineEvent {
 
 /// A line of a task.
 #[derive(Drop)]
-struct LineRow<'a>(&'a Line);
+struct LineRow<'a>(&'a TaskLine);
 
 impl fmt::Display for LineRow<'_> {
     ghost output = { λ r. Some (bytes (line_html r.0.now)) };
@@ -56,7 +56,7 @@ impl fmt::Display for LineRow<'_> {
 
 /// Lines of a task.
 #[derive(Drop)]
-struct LineRows<'a>(&'a [Line]);
+struct LineRows<'a>(&'a [TaskLine]);
 
 impl fmt::Display for LineRows<'_> {
     ghost output = { λ r. Some (bytes (each line_html r.0.now)) };
@@ -101,14 +101,14 @@ fn is_fault(side: Side) -> bool
 }
 
 /// Returns the index of the first line that has the fault.
-fn fault_line(lines: &[Line]) -> Option<usize>
+fn fault_line(lines: &[TaskLine]) -> Option<usize>
     ensures { result ≡ position (λ line. is_fault line.side) lines.now }
 {
     lines.iter().position(|line| is_fault(line.side))
 }
 
 /// Returns how many lines are left out before those that are shown.
-fn left_before(lines: &[Line]) -> usize
+fn left_before(lines: &[TaskLine]) -> usize
     ensures { result ≡ left_before lines.now }
 {
     let fault = fault_line(lines).unwrap_or(0);
@@ -118,7 +118,7 @@ fn left_before(lines: &[Line]) -> usize
 }
 
 /// Returns the lines that are shown.
-fn shown_lines(lines: &[Line]) -> &[Line]
+fn shown_lines(lines: &[TaskLine]) -> &[TaskLine]
     ensures { result.now ≡ shown_lines lines.now }
 {
     first_items(&lines[left_before(lines)..], LINES)
@@ -132,7 +132,7 @@ fn open_words(faulty: bool) -> &'static str
 }
 
 /// Returns how many lines are left out after those that are shown.
-fn left_after(lines: &[Line]) -> usize
+fn left_after(lines: &[TaskLine]) -> usize
     ensures { result ≡ left_after lines.now }
 {
     lines
@@ -143,7 +143,7 @@ fn left_after(lines: &[Line]) -> usize
 
 /// The lines of a task that are shown, and how many are left out before and after them.
 #[derive(Drop)]
-struct TaskLines<'a>(&'a [Line]);
+struct TaskLines<'a>(&'a [TaskLine]);
 
 impl fmt::Display for TaskLines<'_> {
     ghost output = { λ l. Some (bytes (lines_html l.0.now)) };

@@ -7,7 +7,7 @@ ghost use Rattle.wh_timeline.specs.Views.{IsAxisOf};
 ghost use Rattle.wh_page.specs.Pages.{body_html, end_html};
 
 use crate::frame::Frame;
-use crate::table::Table;
+use crate::table::ThingTable;
 use crate::tasks::{Notes, Tasks};
 use std::io;
 use std::io::Write;
@@ -29,7 +29,7 @@ fn write_parts<W: Write>(page: &Page, axis: &Axis, writer: &mut W) -> io::Result
         total: things,
         tasks: shown_tasks(page),
     };
-    let table = Table {
+    let table = ThingTable {
         fault: page.fault,
         lanes: shown_lanes(page),
         total: things,

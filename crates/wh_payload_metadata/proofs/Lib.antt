@@ -1,3 +1,7 @@
 pub mod Walks
 pub mod Erasing
 pub mod GoingOn
+pub mod Reaching
+pub mod Crossing
+pub mod Lookups
+pub mod Nothing

@@ -1,9 +1,9 @@
 -- What holds of each request that is handed on.
-use Rattle.std.specs.Prelude.{◌≡◌, ◌≢◌, ℕ, List, ◌∷◌, ◌++◌, IsSome, Option, Some, codes, true, if◌then◌else◌}
+use Rattle.std.specs.Prelude.{◌≡◌, ◌≢◌, ℕ, List, [], ◌∷◌, ◌++◌, map, IsSome, Option, Some, None, codes, true, if◌then◌else◌}
 use Rattle.std.specs.List.{AllByRecursion}
 use Rattle.serde_json.specs.Data.{Data, null, boolean, number, string, array, object, Items, no_items, item, Members, no_members, member}
-use Rattle.serde_json.specs.Find.{as_object}
-use Rattle.wh_payload_metadata.specs.Payloads.{is_payloads, data_of, metadata_of, encoding_in, have_more}
+use Rattle.serde_json.specs.Find.{as_object, get_member}
+use Rattle.wh_payload_metadata.specs.Payloads.{is_payloads, data_of, metadata_of, encoding_in, have_more, payloads_of}
 use Rattle.wh_payload_metadata.specs.Seen.{all_noted}
 use Rattle.wh_payload_metadata.specs.Handed.{with_member, with_metadata, takes_header, handed_on}
 
@@ -14,6 +14,53 @@ MetadataGoOn =
     → metadata_of came ≡ Some metadata → have_more metadata ≡ true → AllByRecursion (λ later. data_of later ≢ data_of came) after
     → IsSome (as_object goes) → data_of goes ≡ data_of came → encoding_in (metadata_of goes) ≡ encoding_in (Some metadata)
     → metadata_of (with_metadata (all_noted (before ++ came ∷ after) seen) goes) ≡ Some metadata
+
+-- each payload of a request goes out with the metadata that were seen, and no payload is added or left out
+abbrev pub EachPayloadGoesOn : Type 0
+EachPayloadGoesOn =
+    (seen : Members) (request : Data)
+    → payloads_of (handed_on seen None request) ≡ map (with_metadata seen) (payloads_of request)
+
+-- the header in the attributes of a command, if they are an object: None if it has none
+abbrev pub header_in : Data → List (Option Data)
+header_in null = []
+header_in (boolean b) = []
+header_in (number n) = []
+header_in (string text) = []
+header_in (array items) = []
+header_in (object ms) = get_member (codes "header") ms ∷ []
+
+-- the headers of all commands of a request that take one, in their order
+abbrev mutual
+  pub headers_of : Data → List (Option Data)
+  headers_of null = []
+  headers_of (boolean b) = []
+  headers_of (number n) = []
+  headers_of (string text) = []
+  headers_of (array items) = headers_of_items items
+  headers_of (object ms) = headers_of_members ms
+
+  pub headers_of_items : Items → List (Option Data)
+  headers_of_items no_items = []
+  headers_of_items (item d rest) = headers_of d ++ headers_of_items rest
+
+  pub headers_of_members : Members → List (Option Data)
+  headers_of_members no_members = []
+  headers_of_members (member name d rest) =
+      (if is_payloads name then [] else (if takes_header name then header_in d else headers_of d))
+      ++ headers_of_members rest
+
+-- each command of a request that takes a header goes out with that of the run's start
+abbrev pub HeaderGoesOn : Type 0
+HeaderGoesOn =
+    (seen : Members) (header request : Data)
+    → headers_of (handed_on seen (Some header) request) ≡ map (λ _. Some header) (headers_of request)
+
+-- a request that is handed on with a header is that which is handed on without it, and then gets the header alone
+abbrev pub HeaderGoesOnLast : Type 0
+HeaderGoesOnLast =
+    (seen : Members) (header : Option Data) (request : Data)
+    → handed_on seen header request ≡ handed_on no_members header (handed_on seen None request)
 
 -- a payload with its encoding in place of its metadata
 abbrev pub payload_erased : Data → Data

@@ -2,3 +2,5 @@ pub mod Payloads
 pub mod Seen
 pub mod Handed
 pub mod Laws
+pub mod Messages
+pub mod Kept

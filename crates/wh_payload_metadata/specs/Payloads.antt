@@ -1,8 +1,7 @@
 -- Payloads in JSON: objects in a list named `payloads`, each with data and metadata, as texts in base64.
-use Rattle.std.specs.Prelude.{ℕ, List, [], ◌++◌, Bool, false, bytes_eq, codes, nat_lt, Option, Some, option_map, unwrap_or, if◌then◌else◌}
+use Rattle.std.specs.Prelude.{ℕ, List, [], ◌++◌, Bool, false, ◌||◌, not, bytes_eq, codes, Option, Some, option_map, unwrap_or, if◌then◌else◌}
 use Rattle.serde_json.specs.Data.{Data, null, boolean, number, string, array, object, Items, no_items, item, Members, no_members, member}
 use Rattle.serde_json.specs.Find.{as_object}
-use Rattle.serde_json.specs.Events.{members_len}
 use Rattle.wh_json.specs.Fields.{field, text_of, list_of}
 
 -- the name of a list of payloads
@@ -21,9 +20,14 @@ metadata_of payload = field (codes "metadata") (Some payload)
 abbrev pub encoding_in : Option Data → List ℕ
 encoding_in metadata = text_of (field (codes "encoding") metadata)
 
--- whether metadata are an object with more than one member
+-- whether one of the members has another name than `encoding`
+abbrev pub have_other : Members → Bool
+have_other no_members = false
+have_other (member name d rest) = not (bytes_eq name (codes "encoding")) || have_other rest
+
+-- whether metadata are an object with a member beside `encoding`
 abbrev pub have_more : Data → Bool
-have_more metadata = unwrap_or (option_map (λ members. nat_lt 1 (members_len members)) (as_object metadata)) false
+have_more metadata = unwrap_or (option_map have_other (as_object metadata)) false
 
 -- the members of a list of payloads; anything else has none
 abbrev pub payloads_in : Data → List Data

@@ -1,10 +1,10 @@
 //! Reads payloads and their metadata.
 
 ghost use Rattle.std.specs.Prelude.{◌≡◌, option_map};
-ghost use Rattle.serde_json.specs.View.{view};
-ghost use Rattle.wh_payload_metadata.specs.Payloads.{is_payloads, data_of, metadata_of, encoding_in, have_more};
+ghost use Rattle.serde_json.specs.View.{view, members_view};
+ghost use Rattle.wh_payload_metadata.specs.Payloads.{is_payloads, data_of, metadata_of, encoding_in, have_more, have_other};
 
-use serde_json::Value;
+use serde_json::{Map, Value};
 use wh_json::{field, text_of};
 
 /// Whether a member of this name is a list of payloads.
@@ -35,12 +35,24 @@ pub(crate) fn encoding_in<'v>(metadata: Option<&'v Value>) -> &'v str
     text_of(field(metadata, "encoding"))
 }
 
-/// Whether metadata are an object with more than one member.
+/// Whether one of these members has another name than `encoding`.
+fn have_other(members: &Map<String, Value>) -> bool
+    ensures { result ≡ have_other (members_view members.now.entries) }
+{
+    for (name, _value) in members.iter() {
+        if name.as_str() != "encoding" {
+            return true;
+        }
+    }
+    false
+}
+
+/// Whether metadata are an object with a member beside `encoding`.
 pub(crate) fn have_more(metadata: &Value) -> bool
     ensures { result ≡ have_more (view metadata.now) }
 {
     match metadata.as_object() {
-        Some(members) => 1 < members.len(),
+        Some(members) => have_other(members),
         None => false,
     }
 }

@@ -1,3 +1,6 @@
 pub mod Lines
 pub mod Calendar
 pub mod TimesRead
+pub mod Read
+pub mod Shown
+mod With

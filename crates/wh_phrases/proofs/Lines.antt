@@ -3,7 +3,7 @@ use Rattle.std.proofs.Common.{◌≡◌, ◌∙◌, ℕ, List, ◌∷◌, ◌++�
 use Rattle.std.proofs.lemmas.Grind.{flat_map-append}
 use Rattle.wh_tester.specs.Json.{following, open_line, text_member, verdict_members}
 use Rattle.wh_tester.specs.Report.{shown}
-use Rattle.wh_verdict.specs.declared.line.Line.{Line}
+use Rattle.wh_tester.specs.declared.line.Line.{Line}
 use Rattle.wh_phrases.specs.Json.{json_line_with}
 
 -- an object that members follow, and its end

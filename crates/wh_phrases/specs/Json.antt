@@ -14,7 +14,7 @@ use Rattle.wh_workflow.specs.Jobs.{job_phrase}
 use Rattle.wh_workflow.specs.Names.{command_phrase}
 use Rattle.wh_tester.specs.Report.{shown}
 use Rattle.wh_tester.specs.Json.{escaped, object, text_member, verdict_members}
-use Rattle.wh_verdict.specs.declared.line.Line.{Line}
+use Rattle.wh_tester.specs.declared.line.Line.{Line}
 use Rattle.wh_explain.specs.declared.explanation.RecordedEvent.{RecordedEvent}
 use Rattle.wh_explain.specs.declared.explanation.Pairing.{Pairing}
 use Rattle.wh_explain.specs.declared.explanation.Pairing.TheVariants.{Alike, Different, CommandMissing, CommandExtra}

@@ -3,3 +3,8 @@ pub mod Phrases
 pub mod Sides
 pub mod Json
 pub mod Private
+pub mod ValueSides
+pub mod Values
+pub mod Gathered
+pub mod Checked
+pub mod Texts

@@ -18,7 +18,7 @@ pub(crate) struct Keys {
 }
 
 /// Returns these two keys.
-fn keyed(id: &'static str, name: &'static str) -> Keys
+fn keys_of(id: &'static str, name: &'static str) -> Keys
     ensures { keys_seen result ≡ keyed id.now name.now }
 {
     Keys { id, name }
@@ -29,18 +29,18 @@ pub(crate) fn job_keys(job: &Job) -> Keys
     ensures { keys_seen result ≡ job_keys job.now }
 {
     match job {
-        Job::Time(_) | Job::CancelRequested => keyed("", ""),
-        Job::Start { .. } => keyed("workflowType", ""),
-        Job::Signal { .. } => keyed("signalName", ""),
-        Job::Activity { .. } => keyed("activityId", "status"),
-        Job::TimerFired { .. } => keyed("timerId", ""),
-        Job::ChildStarted { .. } | Job::CancelSent { .. } | Job::CancelFailed { .. } => keyed(
+        Job::Time(_) | Job::CancelRequested => keys_of("", ""),
+        Job::Start { .. } => keys_of("workflowType", ""),
+        Job::Signal { .. } => keys_of("signalName", ""),
+        Job::Activity { .. } => keys_of("activityId", "status"),
+        Job::TimerFired { .. } => keys_of("timerId", ""),
+        Job::ChildStarted { .. } | Job::CancelSent { .. } | Job::CancelFailed { .. } => keys_of(
             "workflowId",
             "",
         ),
-        Job::Child { .. } => keyed("workflowId", "status"),
-        Job::SignalSent { .. } | Job::SignalFailed { .. } => keyed("workflowId", "signalName"),
-        Job::Version { .. } => keyed("changeId", ""),
+        Job::Child { .. } => keys_of("workflowId", "status"),
+        Job::SignalSent { .. } | Job::SignalFailed { .. } => keys_of("workflowId", "signalName"),
+        Job::Version { .. } => keys_of("changeId", ""),
     }
 }
 
@@ -49,16 +49,16 @@ pub(crate) fn command_keys(command: &Command) -> Keys
     ensures { keys_seen result ≡ command_keys command.now }
 {
     match command {
-        Command::StartActivity { .. } => keyed("activityId", "activityType"),
-        Command::CancelActivity { .. } => keyed("activityId", ""),
-        Command::StartTimer { .. } | Command::CancelTimer { .. } => keyed("timerId", ""),
-        Command::StartChild { .. } => keyed("workflowId", "workflowType"),
-        Command::CancelChild { .. } => keyed("workflowId", ""),
-        Command::SignalExternal { .. } => keyed("workflowId", "signalName"),
-        Command::Ask { .. } | Command::Marker { .. } => keyed("changeId", ""),
-        Command::Complete { .. } | Command::Cancel => keyed("", ""),
-        Command::Fail { .. } => keyed("message", ""),
-        Command::ContinueAsNew { .. } => keyed("workflowType", ""),
+        Command::StartActivity { .. } => keys_of("activityId", "activityType"),
+        Command::CancelActivity { .. } => keys_of("activityId", ""),
+        Command::StartTimer { .. } | Command::CancelTimer { .. } => keys_of("timerId", ""),
+        Command::StartChild { .. } => keys_of("workflowId", "workflowType"),
+        Command::CancelChild { .. } => keys_of("workflowId", ""),
+        Command::SignalExternal { .. } => keys_of("workflowId", "signalName"),
+        Command::Ask { .. } | Command::Marker { .. } => keys_of("changeId", ""),
+        Command::Complete { .. } | Command::Cancel => keys_of("", ""),
+        Command::Fail { .. } => keys_of("message", ""),
+        Command::ContinueAsNew { .. } => keys_of("workflowType", ""),
     }
 }
 
@@ -67,22 +67,22 @@ pub(crate) fn kind_keys(kind: &EventKind) -> Keys
     ensures { keys_seen result ≡ kind_keys kind.now }
 {
     match kind {
-        EventKind::ActivityTaskScheduled { .. } => keyed("activityId", "activityType"),
-        EventKind::ActivityTaskCancelRequested { .. } => keyed("activityId", ""),
-        EventKind::TimerStarted { .. } | EventKind::TimerCanceled { .. } => keyed("timerId", ""),
-        EventKind::StartChildWorkflowExecutionInitiated { .. } => keyed(
+        EventKind::ActivityTaskScheduled { .. } => keys_of("activityId", "activityType"),
+        EventKind::ActivityTaskCancelRequested { .. } => keys_of("activityId", ""),
+        EventKind::TimerStarted { .. } | EventKind::TimerCanceled { .. } => keys_of("timerId", ""),
+        EventKind::StartChildWorkflowExecutionInitiated { .. } => keys_of(
             "workflowId",
             "workflowType",
         ),
-        EventKind::RequestCancelExternalWorkflowExecutionInitiated { .. } => keyed(
+        EventKind::RequestCancelExternalWorkflowExecutionInitiated { .. } => keys_of(
             "workflowId",
             "",
         ),
-        EventKind::SignalExternalWorkflowExecutionInitiated { .. } => keyed(
+        EventKind::SignalExternalWorkflowExecutionInitiated { .. } => keys_of(
             "workflowId",
             "signalName",
         ),
-        EventKind::MarkerRecorded { .. } => keyed("changeId", ""),
-        _ => keyed("", ""),
+        EventKind::MarkerRecorded { .. } => keys_of("changeId", ""),
+        _ => keys_of("", ""),
     }
 }

@@ -11,9 +11,9 @@ use wh_workflow::Command;
 
 /// The number and the phrase of a recorded event.
 #[derive(Drop)]
-struct EventText<'a>(&'a RecordedEvent);
+struct RecordedText<'a>(&'a RecordedEvent);
 
-impl fmt::Display for EventText<'_> {
+impl fmt::Display for RecordedText<'_> {
     ghost output = { λ t. Some (event_text t.0.now) };
 
     fn fmt<W: fmt::Write>(&self, f: &mut fmt::Formatter<W>) -> fmt::Result {
@@ -46,7 +46,7 @@ fn write_both<W: fmt::Write>(
         DisplaysOnOk W.write_str_gives f.old result (Some text) f.new }
 {
     let sends = SendsText(command);
-    let event = EventText(event);
+    let event = RecordedText(event);
     write!(f, "{sends}, recorded {event}")
 }
 
@@ -63,7 +63,7 @@ impl fmt::Display for SidesText<'_> {
             Pairing::Alike { command, event } => write_both(command, event, f),
             Pairing::Different { command, event } => write_both(command, event, f),
             Pairing::CommandMissing { event } => {
-                let event = EventText(event);
+                let event = RecordedText(event);
                 write!(f, "sends nothing, recorded {event}")
             }
             Pairing::CommandExtra { command } => {

@@ -1,2 +1,9 @@
 pub mod Tables
 pub mod Defaults
+pub mod Excesses
+pub mod Fields
+pub mod TomlTables
+pub mod Retries
+pub mod Kinds
+pub mod Policies
+pub mod Lines

@@ -86,12 +86,12 @@ pub(crate) fn answer_by_replay<W: Workflow, S: TaskSource>(
         }),
         Err(fault) => Err(fault),
     };
-    let run = used(run, end.run);
+    let run = run_to_cache(run, end.run);
     Answered { run, sent }
 }
 
 /// Returns the run if it may be cached.
-fn used<W: Workflow>(run: Option<Run<W>>, run_use: RunUse) -> Option<Run<W>>
+fn run_to_cache<W: Workflow>(run: Option<Run<W>>, run_use: RunUse) -> Option<Run<W>>
     ensures kept { IfSome result (λ _. run_use ≡ RunUse.Cache) }
     ensures same { run_use ≡ RunUse.Cache → result ≡ run }
 {
@@ -138,8 +138,7 @@ fn send_answer<W: Workflow, S: TaskSource>(
         };
     };
     let outcome = outcome_of(&answer);
-    let acceptance = source.answer_replayed(name, &answer, events_of(run), steps);
-    drop(answer);
+    let acceptance = source.answer_replayed(name, answer, events_of(run), steps);
     TaskEnd {
         outcome: outcome_if_sent(acceptance.sent, outcome),
         run: acceptance.run,
@@ -210,8 +209,7 @@ pub(crate) fn answer_by_handler<S: TaskSource, A: ActivityHandler>(
         Err(_) => return Err(StepFault::OutOfMemory),
     };
     let outcome = activity_outcome(&answer);
-    let sent = source.answer_activity(task.name, &answer);
-    drop(answer);
+    let sent = source.answer_activity(task.name, answer);
     outcome_if_sent(sent, outcome)
 }
 

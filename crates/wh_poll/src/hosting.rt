@@ -1,12 +1,12 @@
 //! Workers on an open host, and a host that is opened, run and closed in one call.
-ghost use Rattle.std.specs.Prelude.{◌≡◌, ◌≤◌, ◌+◌, ◌↔◌, IfOk, Err, map, vec_capacity, vec_len};
+ghost use Rattle.std.specs.Prelude.{◌≡◌, ◌+◌, ◌↔◌, IfOk, Err, map, vec_capacity, vec_len};
 ghost use denote.Param.Send.{IsSend};
 ghost use Rattle.wh_ledger.specs.Shares.{sums_of};
 ghost use Rattle.wh_host.specs.Machine.{IsConfig, totals_of};
 ghost use Rattle.wh_poll.specs.Ends.{AreEnds, IsHostEnd};
 
 use crate::observer::Observer;
-use crate::pairs::{unzipped, zipped};
+use crate::pairs::{unzip_pairs, zip_lists};
 use crate::setup::{WorkerEnd, WorkerSetup};
 use crate::workers::run_in_threads;
 use std::alloc::Global;
@@ -15,13 +15,10 @@ use std::sync::Wait;
 use std::sync::ledger::{Blank, Ledger};
 use std::thread;
 use std::thread::Threads;
-use wh_companion::{
-    Companion, EndSignal, NoCompanion, accompany, put_spare, take_spare, with_spare,
-};
 use wh_events::OutOfMemory;
-use wh_host::{Config, Host, OpenFault, Totals};
+use wh_host::{Config, EndSignal, Host, OpenFault, Totals};
 use wh_ledger::Seat;
-use wh_tasks::{ActivityHandler, Gate, TaskSource};
+use wh_tasks::{ActivityHandler, TaskSource};
 use wh_workflow::Workflow;
 
 /// The seats of workers that have ended, and what each of them leaves.
@@ -48,14 +45,12 @@ pub fn run_on_host<
     S: TaskSource + Send + Drop,
     A: ActivityHandler + Send + Drop,
     O: Observer + Send + Drop,
-    G: Gate + Sync,
 >(
     rt: &R,
     alloc: Global,
     host: &Host<W, T, C, F>,
     mut seats: Vec<Seat<T, C, F>>,
     setups: Vec<WorkerSetup<S, A, O>>,
-    gate: &G,
 ) -> Result<(Vec<Seat<T, C, F>>, Vec<WorkerEnd<S, A, O>>), OutOfMemory>
     requires seats { vec_len seats ≡ vec_len setups }
     ensures seats { IfOk result (λ ended. vec_len ended.0 ≡ vec_len setups) }
@@ -67,9 +62,61 @@ pub fn run_on_host<
 {
     let mut ends = Vec::new(alloc);
     ends.reserve(setups.len())?;
-    let pairs = zipped(alloc, &mut seats, setups)?;
-    let ended = run_in_threads(rt, alloc, host, gate, pairs)?;
-    Ok(unzipped(ended, (seats, ends)))
+    let pairs = zip_lists(alloc, &mut seats, setups)?;
+    let ended = run_in_threads(rt, alloc, host, pairs)?;
+    Ok(unzip_pairs(ended, (seats, ends)))
+}
+
+/// Does the same as `run_on_host`, and calls `beside` in one more thread meanwhile. The signal ends
+/// when the workers have ended; `beside` is to return then. If there is no thread for it, it is
+/// called after that. Also returns what `beside` returned.
+pub fn run_beside<
+    R: Threads + Wait + Sync,
+    W: Workflow + Send,
+    T: Ledger + Send,
+    C: Ledger + Send,
+    F: Ledger + Send,
+    S: TaskSource + Send + Drop,
+    A: ActivityHandler + Send + Drop,
+    O: Observer + Send + Drop,
+    X: Send,
+    B: FnOnce() -> X + Send,
+>(
+    rt: &R,
+    alloc: Global,
+    host: &Host<W, T, C, F>,
+    seats: Vec<Seat<T, C, F>>,
+    setups: Vec<WorkerSetup<S, A, O>>,
+    signal: &EndSignal,
+    beside: B,
+) -> (X, Result<Ended<T, C, F, S, A, O>, OutOfMemory>)
+    requires seats { vec_len seats ≡ vec_len setups }
+    requires beside { B.pre beside }
+    ensures beside { B.post beside result.0 }
+    ensures seats { IfOk result.1 (λ ended. vec_len ended.0 ≡ vec_len setups) }
+    ensures room { IfOk result.1 (λ ended. vec_capacity ended.0 ≡ vec_capacity seats) }
+    ensures count { IfOk result.1 (λ ended. vec_len ended.1 ≡ vec_len setups) }
+    ensures counted { IfOk result.1 (λ ended. ended.0.items ≡ map (λ end. end.counted) ended.1.items) }
+    ensures ends { IfOk result.1 (λ ended. AreEnds W.program S.fetches S.delivers S.answers S.failures S.comes_from
+        A.may O.hears seats.items setups.items ended.1.items) }
+{
+    thread::join(
+        rt,
+        beside,
+        move || -> Result<Ended<T, C, F, S, A, O>, OutOfMemory>
+            requires { IsSend W.row × IsSend W.State.row × (vec_len seats ≡ vec_len setups) }
+            ensures seats { IfOk result (λ ended. vec_len ended.0 ≡ vec_len setups) }
+            ensures room { IfOk result (λ ended. vec_capacity ended.0 ≡ vec_capacity seats) }
+            ensures count { IfOk result (λ ended. vec_len ended.1 ≡ vec_len setups) }
+            ensures counted { IfOk result (λ ended. ended.0.items ≡ map (λ end. end.counted) ended.1.items) }
+            ensures ends { IfOk result (λ ended. AreEnds W.program S.fetches S.delivers S.answers S.failures
+                S.comes_from A.may O.hears seats.items setups.items ended.1.items) }
+        {
+            let ended = run_on_host(rt, alloc, host, seats, setups);
+            signal.end(rt);
+            ended
+        },
+    )
 }
 
 /// What is left of a host whose workers have ended.
@@ -100,39 +147,11 @@ pub fn run_host<
     S: TaskSource + Send + Drop,
     A: ActivityHandler + Send + Drop,
     O: Observer + Send + Drop,
-    G: Gate + Sync,
 >(
     rt: &R,
     alloc: Global,
     config: Config,
     setups: Vec<WorkerSetup<S, A, O>>,
-    gate: &G,
-) -> Result<HostEnd<S, A, O>, OpenFault>
-    ensures bad { (result ≡ Err OpenFault.BadConfig) ↔ (¬ (IsConfig config × (config.seats ≡ vec_len setups))) }
-    ensures end { IfOk result (IsHostEnd W.program S.fetches S.delivers S.answers S.failures S.comes_from
-        A.may O.hears config setups) }
-{
-    run_host_beside::<W, R, S, A, O, G, NoCompanion>(rt, alloc, config, setups, gate, None)
-}
-
-/// Does the same as `run_host`, with a companion, if there is one, in another thread. The host is
-/// opened with a seat for the companion, which counts nothing, unless the workers take all seats
-/// that a host may have.
-pub fn run_host_beside<
-    W: Workflow + Send,
-    R: Threads + Wait + Sync,
-    S: TaskSource + Send + Drop,
-    A: ActivityHandler + Send + Drop,
-    O: Observer + Send + Drop,
-    G: Gate + Sync,
-    P: Companion + Sync,
->(
-    rt: &R,
-    alloc: Global,
-    config: Config,
-    setups: Vec<WorkerSetup<S, A, O>>,
-    gate: &G,
-    companion: Option<&P>,
 ) -> Result<HostEnd<S, A, O>, OpenFault>
     ensures bad { (result ≡ Err OpenFault.BadConfig) ↔ (¬ (IsConfig config × (config.seats ≡ vec_len setups))) }
     ensures end { IfOk result (IsHostEnd W.program S.fetches S.delivers S.answers S.failures S.comes_from
@@ -141,32 +160,25 @@ pub fn run_host_beside<
     if config.seats != setups.len() {
         return Err(OpenFault::BadConfig);
     }
-    let opened = with_spare(config, companion.is_some());
-    let parts = opened.seats as u64;
-    let end = run_with::<W, R, S, A, O, G, P, Brand, Brand, Brand>(
+    let parts = config.seats as u64;
+    run_with::<W, R, S, A, O, Brand, Brand, Brand>(
         rt,
         alloc,
-        opened,
+        config,
         setups,
-        gate,
-        companion,
         Blank::new(parts),
         Blank::new(parts),
         Blank::new(parts),
-    )?;
-    Ok(HostEnd { config, ..end })
+    )
 }
 
-/// Opens a host of these sizes over these ledgers, runs its workers with the companion beside them,
-/// and closes it. There may be a spare seat beside those of the workers.
+/// Opens a host of these sizes over these ledgers, runs its workers, and closes it.
 fn run_with<
     W: Workflow + Send,
     R: Threads + Wait + Sync,
     S: TaskSource + Send + Drop,
     A: ActivityHandler + Send + Drop,
     O: Observer + Send + Drop,
-    G: Gate + Sync,
-    P: Companion + Sync,
     T: Ledger + Send,
     C: Ledger + Send,
     F: Ledger + Send,
@@ -175,13 +187,11 @@ fn run_with<
     alloc: Global,
     config: Config,
     setups: Vec<WorkerSetup<S, A, O>>,
-    gate: &G,
-    companion: Option<&P>,
     taken: Blank,
     completed: Blank,
     failed: Blank,
 ) -> Result<HostEnd<S, A, O>, OpenFault>
-    requires seats { (vec_len setups ≤ config.seats) × (config.seats ≤ vec_len setups + 1) }
+    requires seats { config.seats ≡ vec_len setups }
     requires taken { (taken.name ≡ T.name) × (taken.parts ≡ T.parts) × (taken.parts ≡ config.seats) }
     requires completed { (completed.name ≡ C.name) × (completed.parts ≡ C.parts)
         × (completed.parts ≡ config.seats) }
@@ -190,79 +200,14 @@ fn run_with<
     ensures end { IfOk result (IsHostEnd W.program S.fetches S.delivers S.answers S.failures S.comes_from
         A.may O.hears config setups) }
 {
-    let (host, mut seats) = Host::<W, T, C, F>::open(alloc, config, taken, completed, failed)?;
-    let spare = take_spare(&mut seats, setups.len());
-    let (spare, ended) = run_beside(rt, alloc, &host, seats, spare, setups, gate, companion);
-    let (mut seats, workers) = ended?;
-    put_spare(&mut seats, spare);
+    let (host, fresh) = Host::<W, T, C, F>::open(alloc, config, taken, completed, failed)?;
+    let (seats, workers) = run_on_host(rt, alloc, &host, fresh, setups)?;
     let totals = close_host(host, seats);
     Ok(HostEnd {
         config,
         workers,
         totals,
     })
-}
-
-/// Does the same as `run_on_host`, with the companion, if there is one, in another thread. The
-/// spare seat comes back as it was.
-pub fn run_beside<
-    R: Threads + Wait + Sync,
-    W: Workflow + Send,
-    T: Ledger + Send,
-    C: Ledger + Send,
-    F: Ledger + Send,
-    S: TaskSource + Send + Drop,
-    A: ActivityHandler + Send + Drop,
-    O: Observer + Send + Drop,
-    G: Gate + Sync,
-    P: Companion + Sync,
->(
-    rt: &R,
-    alloc: Global,
-    host: &Host<W, T, C, F>,
-    seats: Vec<Seat<T, C, F>>,
-    spare: Option<Seat<T, C, F>>,
-    setups: Vec<WorkerSetup<S, A, O>>,
-    gate: &G,
-    companion: Option<&P>,
-) -> (
-    Option<Seat<T, C, F>>,
-    Result<Ended<T, C, F, S, A, O>, OutOfMemory>,
-)
-    requires seats { vec_len seats ≡ vec_len setups }
-    ensures spare { result.0 ≡ spare }
-    ensures seats { IfOk result.1 (λ ended. vec_len ended.0 ≡ vec_len setups) }
-    ensures room { IfOk result.1 (λ ended. vec_capacity ended.0 ≡ vec_capacity seats) }
-    ensures count { IfOk result.1 (λ ended. vec_len ended.1 ≡ vec_len setups) }
-    ensures counted { IfOk result.1 (λ ended. ended.0.items ≡ map (λ end. end.counted) ended.1.items) }
-    ensures ends { IfOk result.1 (λ ended. AreEnds W.program S.fetches S.delivers S.answers S.failures S.comes_from
-        A.may O.hears seats.items setups.items ended.1.items) }
-{
-    let Some(companion) = companion else {
-        return (spare, run_on_host(rt, alloc, host, seats, setups, gate));
-    };
-    let signal = &EndSignal::new();
-    thread::join(
-        rt,
-        move || -> Option<Seat<T, C, F>>
-            requires { IsSend W.row × IsSend W.State.row }
-            ensures { result ≡ spare }
-        { accompany(rt, host, spare, signal, companion) },
-        move || -> Result<Ended<T, C, F, S, A, O>, OutOfMemory>
-            requires { vec_len seats ≡ vec_len setups }
-            ensures seats { IfOk result (λ ended. vec_len ended.0 ≡ vec_len setups) }
-            ensures room { IfOk result (λ ended. vec_capacity ended.0 ≡ vec_capacity seats) }
-            ensures count { IfOk result (λ ended. vec_len ended.1 ≡ vec_len setups) }
-            ensures counted { IfOk result (λ ended. ended.0.items ≡ map (λ end. end.counted) ended.1.items) }
-            ensures ends { IfOk result (λ ended. AreEnds W.program S.fetches S.delivers S.answers S.failures
-                S.comes_from A.may O.hears seats.items setups.items ended.1.items) }
-        {
-            signal.begin(rt);
-            let ended = run_on_host(rt, alloc, host, seats, setups, gate);
-            signal.end(rt);
-            ended
-        },
-    )
 }
 
 /// Closes a host with all of its seats, and returns what they counted.

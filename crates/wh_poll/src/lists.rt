@@ -6,7 +6,7 @@ ghost use Rattle.wh_tasks.specs.Source.{KeepsOrigin, RoseIfFailed, SameTasks};
 ghost use Rattle.wh_poll.specs.Lists.{worker_of, IsWorkOf, AreWorkOf, WithinTurns, AllRoseIfFailed, AllAnsweredWithin};
 
 use crate::observer::NoObserver;
-use crate::pairs::zipped;
+use crate::pairs::zip_lists;
 use crate::setup::{WorkerEnd, WorkerSetup};
 use crate::workers::{EndedWorker, run_in_threads, run_worker};
 use std::alloc::Global;
@@ -16,7 +16,7 @@ use std::thread::Threads;
 use wh_events::OutOfMemory;
 use wh_host::Host;
 use wh_ledger::Seat;
-use wh_tasks::{ActivityHandler, Gate, SourceFault, TaskSource};
+use wh_tasks::{ActivityHandler, SourceFault, TaskSource};
 use wh_workflow::Workflow;
 
 /// What a worker returns when it ends.
@@ -46,7 +46,6 @@ pub fn work<
     F: Ledger,
     S: TaskSource,
     A: ActivityHandler + Drop,
-    G: Gate,
 >(
     rt: &R,
     alloc: Global,
@@ -54,7 +53,6 @@ pub fn work<
     seat: Seat<T, C, F>,
     source: S,
     handler: A,
-    gate: &G,
     turns: u64,
 ) -> Worker<T, C, F, S>
     ensures taken { result.seat.taken ≤ seat.taken + turns }
@@ -72,7 +70,7 @@ pub fn work<
         observer: NoObserver,
         turns,
     };
-    worker_of(run_worker(rt, alloc, host, gate, seat, setup))
+    worker_of(run_worker(rt, alloc, host, seat, setup))
 }
 
 /// Returns what a worker returns, from what it leaves.
@@ -105,7 +103,6 @@ pub fn run_workers<
     F: Ledger + Send,
     S: TaskSource + Send + Drop,
     A: ActivityHandler + Send + Drop,
-    G: Gate + Sync,
 >(
     rt: &R,
     alloc: Global,
@@ -113,7 +110,6 @@ pub fn run_workers<
     mut seats: Vec<Seat<T, C, F>>,
     sources: Vec<S>,
     handlers: Vec<A>,
-    gate: &G,
     turns: Vec<u64>,
 ) -> Result<Vec<Worker<T, C, F, S>>, OutOfMemory>
     requires sources { vec_len sources ≡ vec_len seats }
@@ -133,10 +129,10 @@ pub fn run_workers<
         seats.items sources.items handlers.items turns.items workers.items) }
 {
     let setups = setups_of(alloc, sources, handlers, turns)?;
-    let pairs = zipped(alloc, &mut seats, setups)?;
+    let pairs = zip_lists(alloc, &mut seats, setups)?;
     let mut room = Vec::new(alloc);
     room.reserve(pairs.len())?;
-    let ended = run_in_threads(rt, alloc, host, gate, pairs)?;
+    let ended = run_in_threads(rt, alloc, host, pairs)?;
     Ok(workers_of(ended, room))
 }
 

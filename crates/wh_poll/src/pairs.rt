@@ -7,7 +7,7 @@ use wh_events::OutOfMemory;
 /// Pairs each element of the first list with the element of the second in its place. Leaves the
 /// first list empty, with the capacity that it had. Returns `OutOfMemory` if there was no memory
 /// for the pairs.
-pub(crate) fn zipped<A: Drop, B: Drop>(
+pub(crate) fn zip_lists<A: Drop, B: Drop>(
     alloc: Global,
     firsts: &mut Vec<A>,
     mut seconds: Vec<B>,
@@ -32,7 +32,7 @@ pub(crate) fn zipped<A: Drop, B: Drop>(
 }
 
 /// Takes pairs apart, into two empty lists with room for the elements.
-pub(crate) fn unzipped<A: Drop, B: Drop>(
+pub(crate) fn unzip_pairs<A: Drop, B: Drop>(
     mut pairs: Vec<(A, B)>,
     room: (Vec<A>, Vec<B>),
 ) -> (Vec<A>, Vec<B>)

@@ -20,7 +20,7 @@ use wh_ledger::Seat;
 use wh_replay::Run;
 use wh_slots::{Held, Permit, ReserveFault, SlotKind, TaskName};
 use wh_tasks::{
-    ActivityHandler, ActivityTask, Gate, Polled, SourceFault, StepFault, TaskSource, WorkflowTask,
+    ActivityHandler, ActivityTask, Polled, SourceFault, StepFault, TaskSource, WorkflowTask,
 };
 use wh_workflow::Workflow;
 
@@ -79,7 +79,7 @@ enum TurnStart<T> {
 /// Serves one task of the kind, if there is one: reserves a slot, polls the source, starts
 /// processing the task, replays or runs it, sends its answer, gives the run back to the cache, and
 /// finishes the task. The host is locked only for each of its own steps. Its lock is not held while
-/// the source is called, the gate is entered, workflow code is stepped or an activity is run.
+/// the source is called, workflow code is stepped or an activity is run.
 ///
 /// Returns `Workflow` or `Activity` if exactly one answer was sent, under the name of a task that
 /// the source delivers: that of `replay_task`, with no run or one of the task's key, or that of the
@@ -98,7 +98,6 @@ pub fn serve_one<
     F: Ledger,
     S: TaskSource,
     A: ActivityHandler,
-    G: Gate,
 >(
     rt: &R,
     alloc: Global,
@@ -106,7 +105,6 @@ pub fn serve_one<
     seat: &mut Seat<T, C, F>,
     source: &mut S,
     handler: &mut A,
-    gate: &G,
     kind: SlotKind,
 ) -> Result<Served, SourceFault>
     ensures serves { Serves kind W.program (S.fetches source.old) (S.delivers source.old) (A.may handler.old)
@@ -119,16 +117,16 @@ pub fn serve_one<
     let reserved = host.lock(rt).reserve(kind);
     let permit = match reserved {
         Ok(permit) => permit,
-        Err(fault) => return Ok(unreserved(fault)),
+        Err(fault) => return Ok(no_slot(fault)),
     };
     match kind {
-        SlotKind::Workflow => serve_workflow(rt, alloc, host, seat, source, gate, permit),
+        SlotKind::Workflow => serve_workflow(rt, alloc, host, seat, source, permit),
         SlotKind::Activity => serve_activity(rt, host, seat, source, handler, permit),
     }
 }
 
 /// Returns the result of a turn that got no slot.
-fn unreserved(fault: ReserveFault) -> Served
+fn no_slot(fault: ReserveFault) -> Served
     ensures { result ≡ unreserved fault }
 {
     match fault {
@@ -140,13 +138,12 @@ fn unreserved(fault: ReserveFault) -> Served
 
 /// Serves a workflow task under the permit.
 #[tactic(auto, using(crate::proofs::Turns::counts_sent, crate::proofs::Turns::fails_sent))]
-fn serve_workflow<R: Wait, W: Workflow, T: Ledger, C: Ledger, F: Ledger, S: TaskSource, G: Gate>(
+fn serve_workflow<R: Wait, W: Workflow, T: Ledger, C: Ledger, F: Ledger, S: TaskSource>(
     rt: &R,
     alloc: Global,
     host: &Host<W, T, C, F>,
     seat: &mut Seat<T, C, F>,
     source: &mut S,
-    gate: &G,
     permit: Permit,
 ) -> Result<Served, SourceFault>
     ensures serves { ServesWorkflow W.program (S.fetches source.old) (S.delivers source.old)
@@ -167,10 +164,9 @@ fn serve_workflow<R: Wait, W: Workflow, T: Ledger, C: Ledger, F: Ledger, S: Task
             return Ok(served);
         }
     };
-    gate.enter(rt, name);
     let sent = answer_held(rt, alloc, host, &held, cached, task, source);
     finish(rt, host, held, outcome_of(sent), seat);
-    served_workflow(name, sent)
+    result_of_workflow(name, sent)
 }
 
 /// Polls a workflow task. If there is none, the turn ends with the result of the poll.
@@ -247,7 +243,7 @@ fn serve_activity<
     let sent = answer_by_handler(&task, source, handler);
     drop(task);
     finish(rt, host, held, sent.unwrap_or(Outcome::Failed), seat);
-    served_activity(name, sent)
+    result_of_activity(name, sent)
 }
 
 /// Polls an activity task. If there is none, the turn ends with the result of the poll.
@@ -267,7 +263,7 @@ fn start_activity<S: TaskSource>(source: &mut S) -> TurnStart<ActivityTask>
 }
 
 /// Returns the result of serving a workflow task, by what was sent.
-fn served_workflow(name: TaskName, sent: Result<Reply, StepFault>) -> Result<Served, SourceFault>
+fn result_of_workflow(name: TaskName, sent: Result<Reply, StepFault>) -> Result<Served, SourceFault>
     ensures { result ≡ served_workflow name sent }
 {
     match sent {
@@ -277,22 +273,25 @@ fn served_workflow(name: TaskName, sent: Result<Reply, StepFault>) -> Result<Ser
             steps: reply.steps,
             outcome: reply.outcome,
         }),
-        Err(fault) => unanswered(name, fault),
+        Err(fault) => nothing_sent(name, fault),
     }
 }
 
 /// Returns the result of serving an activity task, by what was sent.
-fn served_activity(name: TaskName, sent: Result<Outcome, StepFault>) -> Result<Served, SourceFault>
+fn result_of_activity(
+    name: TaskName,
+    sent: Result<Outcome, StepFault>,
+) -> Result<Served, SourceFault>
     ensures { result ≡ served_activity name sent }
 {
     match sent {
         Ok(outcome) => Ok(Served::Activity { name, outcome }),
-        Err(fault) => unanswered(name, fault),
+        Err(fault) => nothing_sent(name, fault),
     }
 }
 
 /// Returns the result of serving a task if nothing was sent.
-fn unanswered(name: TaskName, fault: StepFault) -> Result<Served, SourceFault>
+fn nothing_sent(name: TaskName, fault: StepFault) -> Result<Served, SourceFault>
     ensures { result ≡ unanswered name fault }
 {
     match fault {

@@ -17,7 +17,7 @@ use std::thread::Threads;
 use wh_host::Host;
 use wh_ledger::Seat;
 use wh_slots::SlotKind;
-use wh_tasks::{ActivityHandler, Gate, SourceFault, TaskSource};
+use wh_tasks::{ActivityHandler, SourceFault, TaskSource};
 use wh_workflow::Workflow;
 
 /// A seat with the setup of its worker.
@@ -76,12 +76,11 @@ impl<S: TaskSource, A: ActivityHandler, O: Observer> WorkerEnd<S, A, O> {
     /// Takes one more turn, from what the worker would leave before it: serves one task of the kind
     /// with the worker's seat, keeps the fault of the source, if it is the first, and notifies the
     /// observer.
-    fn take_turn<R: Wait, W: Workflow, T: Ledger, C: Ledger, F: Ledger, G: Gate>(
+    fn take_turn<R: Wait, W: Workflow, T: Ledger, C: Ledger, F: Ledger>(
         &mut self,
         rt: &R,
         alloc: Global,
         host: &Host<W, T, C, F>,
-        gate: &G,
         seat: &mut Seat<T, C, F>,
         kind: SlotKind,
     ) -> Result<Served, SourceFault>
@@ -94,7 +93,7 @@ impl<S: TaskSource, A: ActivityHandler, O: Observer> WorkerEnd<S, A, O> {
             kind self.old result self.new }
     {
         let source = &mut self.source;
-        let served = serve_one(rt, alloc, host, seat, source, &mut self.handler, gate, kind);
+        let served = serve_one(rt, alloc, host, seat, source, &mut self.handler, kind);
         self.counted = seat.share();
         self.fault = first_fault(self.fault, served);
         self.observer.observe(served);
@@ -125,12 +124,10 @@ pub(crate) fn run_worker<
     S: TaskSource,
     A: ActivityHandler,
     O: Observer,
-    G: Gate,
 >(
     rt: &R,
     alloc: Global,
     host: &Host<W, T, C, F>,
-    gate: &G,
     mut seat: Seat<T, C, F>,
     setup: WorkerSetup<S, A, O>,
 ) -> EndedWorker<T, C, F, S, A, O>
@@ -152,7 +149,7 @@ pub(crate) fn run_worker<
     };
     let mut rota = Rota::first();
     for _turn in 0..turns {
-        let served = end.take_turn(rt, alloc, host, gate, &mut seat, rota.kind);
+        let served = end.take_turn(rt, alloc, host, &mut seat, rota.kind);
         if !rota.goes_on(served) {
             break;
         }
@@ -170,12 +167,10 @@ pub(crate) fn run_in_threads<
     S: TaskSource + Send + Drop,
     A: ActivityHandler + Send + Drop,
     O: Observer + Send + Drop,
-    G: Gate + Sync,
 >(
     rt: &R,
     alloc: Global,
     host: &Host<W, T, C, F>,
-    gate: &G,
     pairs: Vec<SeatedWorker<T, C, F, S, A, O>>,
 ) -> Result<Vec<EndedWorker<T, C, F, S, A, O>>, AllocError>
     ensures count { IfOk result (λ ended. vec_len ended ≡ vec_len pairs) }
@@ -192,7 +187,7 @@ pub(crate) fn run_in_threads<
                 seated result }
         {
             let (seat, setup) = seated;
-            run_worker(rt, alloc, host, gate, seat, setup)
+            run_worker(rt, alloc, host, seat, setup)
         },
     )
 }

@@ -7,13 +7,13 @@ use Rattle.wh_json.specs.Events.{document_within}
 use Rattle.wh_rows.specs.Tables.{Definition}
 use Rattle.wh_table_text.specs.declared.fault.TableFault.TheVariants as faults
 use Rattle.wh_table_text.specs.Reading.{phrases_at}
-use Rattle.wh_table_promises.specs.declared.deciding.Verdict.TheVariants as verdicts
+use Rattle.wh_table_promises.specs.declared.deciding.PromiseVerdict.TheVariants as verdicts
 use Rattle.wh_table_promises.specs.declared.promise.TablePromise.{TablePromise}
 use Rattle.wh_table_promises.specs.Promised.{promise_of}
 use Rattle.wh_table_promises.specs.Ways.{IsRight}
 use Rattle.wh_promise_check.specs.Phrases.{read_ok, promise_in}
-use Rattle.wh_promise_check.specs.declared.findings.Outcome.{Outcome}
-use Rattle.wh_promise_check.specs.declared.findings.Outcome.TheVariants as outcomes
+use Rattle.wh_promise_check.specs.declared.findings.PhraseFinding.{PhraseFinding}
+use Rattle.wh_promise_check.specs.declared.findings.PhraseFinding.TheVariants as outcomes
 use Rattle.wh_promise_check.specs.declared.findings.PromiseFinding.{PromiseFinding}
 use Rattle.wh_promise_check.specs.declared.findings.PromiseFindings.{PromiseFindings}
 use Rattle.wh_promise_check.specs.declared.findings.PromiseFindings.TheVariants as found
@@ -28,13 +28,13 @@ abbrev pub phrases_in : List ℕ → Option (List (List ℕ))
 phrases_in bytes = phrases_of (document_within bytes)
 
 -- what is found of a promise is right; if there is none, that is found
-abbrev pub IsOutcome : Definition → Option TablePromise → Outcome → Type 0
+abbrev pub IsOutcome : Definition → Option TablePromise → PhraseFinding → Type 0
 IsOutcome table None outcomes.NoPromise = Unit {0}
 IsOutcome table (Some promise) (outcomes.Decided verdict) = IsRight table (promise_of promise) verdict
 IsOutcome table _ _ = ⊥
 
 -- so of the promise that a phrase says
-abbrev pub IsDecided : Definition → List ℕ → Outcome → Type 0
+abbrev pub IsDecided : Definition → List ℕ → PhraseFinding → Type 0
 IsDecided table phrase outcome = IsOutcome table (promise_in phrase) outcome
 
 -- that, and which phrase it is
@@ -55,7 +55,7 @@ AreDecided table (Some phrases) (found.Each list) = (length phrases ≤ 50) × A
 AreDecided table _ _ = ⊥
 
 -- a promise is kept
-abbrev pub is_kept_by : Outcome → Bool
+abbrev pub is_kept_by : PhraseFinding → Bool
 is_kept_by (outcomes.Decided verdicts.Kept) = true
 is_kept_by _ = false
 

@@ -1,3 +1,5 @@
 pub mod Phrases
 pub mod Findings
 pub mod Texts
+pub mod Kept
+pub mod BroughtTables

@@ -6,10 +6,10 @@ use Rattle.wh_tester.specs.Report.{shown}
 use Rattle.wh_table_promises.specs.declared.ways.WayStep.{WayStep}
 use Rattle.wh_table_promises.specs.declared.deciding.Doubt.{Doubt}
 use Rattle.wh_table_promises.specs.declared.deciding.Doubt.TheVariants as doubts
-use Rattle.wh_table_promises.specs.declared.deciding.Verdict.{Verdict}
-use Rattle.wh_table_promises.specs.declared.deciding.Verdict.TheVariants as verdicts
-use Rattle.wh_promise_check.specs.declared.findings.Outcome.{Outcome}
-use Rattle.wh_promise_check.specs.declared.findings.Outcome.TheVariants as outcomes
+use Rattle.wh_table_promises.specs.declared.deciding.PromiseVerdict.{PromiseVerdict}
+use Rattle.wh_table_promises.specs.declared.deciding.PromiseVerdict.TheVariants as verdicts
+use Rattle.wh_promise_check.specs.declared.findings.PhraseFinding.{PhraseFinding}
+use Rattle.wh_promise_check.specs.declared.findings.PhraseFinding.TheVariants as outcomes
 use Rattle.wh_promise_check.specs.declared.findings.PromiseFinding.{PromiseFinding}
 use Rattle.wh_promise_check.specs.declared.findings.PromiseFindings.{PromiseFindings}
 use Rattle.wh_promise_check.specs.declared.findings.PromiseFindings.TheVariants as found
@@ -36,13 +36,13 @@ broken_text true = codes "broken by: "
 broken_text false = codes "broken, perhaps by fewer jobs too, by: "
 
 -- what is said of a verdict
-abbrev pub verdict_text : Verdict → List ℕ
+abbrev pub verdict_text : PromiseVerdict → List ℕ
 verdict_text verdicts.Kept = codes "kept"
 verdict_text (verdicts.Broken breach) = broken_text breach.is_shortest ++ jobs_text breach.way.items
 verdict_text (verdicts.NotDecided doubt) = codes "not decided: " ++ doubt_text doubt
 
 -- what is said of a phrase
-abbrev pub outcome_text : Outcome → List ℕ
+abbrev pub outcome_text : PhraseFinding → List ℕ
 outcome_text outcomes.NoPromise = codes "no promise is written so"
 outcome_text (outcomes.Decided verdict) = verdict_text verdict
 
@@ -61,7 +61,7 @@ abbrev pub step_lines : List WayStep → List ℕ
 step_lines way = flat_map step_line way
 
 -- the scenario below the line of a promise, if it is broken
-abbrev pub way_lines : Outcome → List ℕ
+abbrev pub way_lines : PhraseFinding → List ℕ
 way_lines (outcomes.Decided (verdicts.Broken breach)) = step_lines breach.way.items
 way_lines _ = []
 
@@ -107,7 +107,7 @@ shortest_json true = codes "true"
 shortest_json false = codes "false"
 
 -- the members that say a verdict
-abbrev pub verdict_members : Verdict → List ℕ
+abbrev pub verdict_members : PromiseVerdict → List ℕ
 verdict_members verdicts.Kept = codes "\"verdict\":\"kept\""
 verdict_members (verdicts.Broken breach) =
     codes "\"verdict\":\"broken\",\"shortest\":" ++ (shortest_json breach.is_shortest ++ (codes ",\"scenario\":["
@@ -116,7 +116,7 @@ verdict_members (verdicts.NotDecided doubt) =
     codes "\"verdict\":\"not decided\",\"reason\":\"" ++ (doubt_text doubt ++ codes "\"")
 
 -- the members that say what is found of a phrase
-abbrev pub outcome_members : Outcome → List ℕ
+abbrev pub outcome_members : PhraseFinding → List ℕ
 outcome_members outcomes.NoPromise = codes "\"verdict\":\"no promise\""
 outcome_members (outcomes.Decided verdict) = verdict_members verdict
 

@@ -8,7 +8,7 @@ use std::alloc::Global;
 use wh_events::{Items, OutOfMemory, Text};
 use wh_json::{ReadFault, field, read_document};
 use wh_row_rules::OwnedTable;
-use wh_table_promises::{TablePromise, Verdict, decide};
+use wh_table_promises::{PromiseVerdict, TablePromise, decide};
 use wh_table_text::{TableFault, phrases_at};
 
 /// The most promises that a table may have.
@@ -16,11 +16,11 @@ pub const MOST_PROMISES: usize = 50;
 
 /// What is found of a phrase.
 #[derive(Drop)]
-pub enum Outcome {
+pub enum PhraseFinding {
     /// No promise is written so.
     NoPromise,
     /// It says a promise, with this verdict.
-    Decided(Verdict),
+    Decided(PromiseVerdict),
 }
 
 /// A promise of a table, and whether it keeps it.
@@ -29,7 +29,7 @@ pub struct PromiseFinding {
     /// The phrase that says it.
     pub phrase: Text,
     /// What is found of it.
-    pub outcome: Outcome,
+    pub outcome: PhraseFinding,
 }
 
 /// What is found of the promises of a table.
@@ -61,15 +61,15 @@ fn phrases_in(alloc: Global, bytes: &[u8]) -> Result<Option<Vec<Text>>, OutOfMem
 }
 
 /// What is found of a phrase that says a promise.
-fn decided(
+fn finding_of_promise(
     alloc: Global,
     table: &OwnedTable,
     promise: &TablePromise,
-) -> Result<Outcome, OutOfMemory>
+) -> Result<PhraseFinding, OutOfMemory>
     ensures { IfOk result (λ outcome. IsOutcome (definition table.now) (Some promise.now) outcome) }
 {
     let verdict = decide(alloc, table, promise)?;
-    Ok(Outcome::Decided(verdict))
+    Ok(PhraseFinding::Decided(verdict))
 }
 
 /// What is found if a phrase says this promise, or none.
@@ -77,13 +77,13 @@ fn outcome_by(
     alloc: Global,
     table: &OwnedTable,
     promise: Option<TablePromise>,
-) -> Result<Outcome, OutOfMemory>
+) -> Result<PhraseFinding, OutOfMemory>
     ensures { IfOk result (λ outcome. IsOutcome (definition table.now) promise outcome) }
 {
     match promise {
-        None => Ok(Outcome::NoPromise),
+        None => Ok(PhraseFinding::NoPromise),
         Some(promise) => {
-            let outcome = decided(alloc, table, &promise);
+            let outcome = finding_of_promise(alloc, table, &promise);
             drop(promise);
             outcome
         }
@@ -91,7 +91,7 @@ fn outcome_by(
 }
 
 /// What is found of a phrase.
-fn outcome_of(alloc: Global, table: &OwnedTable, phrase: &str) -> Result<Outcome, OutOfMemory>
+fn outcome_of(alloc: Global, table: &OwnedTable, phrase: &str) -> Result<PhraseFinding, OutOfMemory>
     ensures { IfOk result (λ outcome. IsDecided (definition table.now) phrase.now outcome) }
 {
     let promise = promise_in(alloc, phrase)?;
@@ -153,7 +153,10 @@ pub fn check_promises(
 fn is_kept(finding: &PromiseFinding) -> bool
     ensures { result ≡ is_kept finding.now }
 {
-    matches!(&finding.outcome, Outcome::Decided(Verdict::Kept))
+    matches!(
+        &finding.outcome,
+        PhraseFinding::Decided(PromiseVerdict::Kept)
+    )
 }
 
 /// Whether each of the list is kept.

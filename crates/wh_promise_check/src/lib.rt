@@ -9,13 +9,17 @@
 //!
 //! What happens is a job as a row writes it, a command `activity TYPE`, `child TYPE` or `send SIGNAL`,
 //! or that the run closes: `complete`, `fail`, `canceled`, `continued`, and `close` in whichever way.
+//!
+//! By `laws`, the promises of tables hold for histories: those of tables in a program, and those of
+//! tables that runs get with their input.
 #![tactic(auto)]
 
 mod findings;
+pub mod laws;
 mod reading;
 mod texts;
 
 pub use findings::{
-    MOST_PROMISES, Outcome, PromiseFinding, PromiseFindings, are_kept, check_promises,
+    MOST_PROMISES, PhraseFinding, PromiseFinding, PromiseFindings, are_kept, check_promises,
 };
 pub use texts::{findings_json, findings_text};

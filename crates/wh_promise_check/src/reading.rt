@@ -31,7 +31,7 @@ fn before_comma(text: &str) -> &str
 }
 
 /// What follows a space that the text begins with; nothing if it does not.
-fn spaced(text: &str) -> &str
+fn after_space(text: &str) -> &str
     ensures { result.now ≡ spaced text.now }
 {
     if word(text).is_empty() {
@@ -55,7 +55,7 @@ fn after_colon(text: &str) -> &str
 fn behind_colon(text: &str) -> &str
     ensures { result.now ≡ behind 58 text.now }
 {
-    spaced(after_colon(text))
+    after_space(after_colon(text))
 }
 
 /// What stands behind the first comma of a text; nothing if there is none.
@@ -72,7 +72,7 @@ fn after_comma(text: &str) -> &str
 fn behind_comma(text: &str) -> &str
     ensures { result.now ≡ behind 44 text.now }
 {
-    spaced(after_comma(text))
+    after_space(after_comma(text))
 }
 
 /// Whether the text is one word.

@@ -5,9 +5,9 @@ ghost use Rattle.wh_promise_check.specs.Texts.{step_line, step_lines, way_lines,
 ghost use Rattle.wh_promise_check.specs.Texts.{step_json, later_step, later_steps, steps_json, shortest_json, verdict_members, outcome_members};
 ghost use Rattle.wh_promise_check.specs.Texts.{finding_json, later_finding, later_findings, each_json, findings_json};
 
-use crate::findings::{Outcome, PromiseFinding, PromiseFindings};
+use crate::findings::{PhraseFinding, PromiseFinding, PromiseFindings};
 use std::alloc::{AllocError, Global};
-use wh_table_promises::{Doubt, Verdict, WayStep};
+use wh_table_promises::{Doubt, PromiseVerdict, WayStep};
 use wh_tester::{EscapedName, Shown};
 
 /// The jobs of steps, with a semicolon in front of each.
@@ -56,17 +56,17 @@ fn broken_text(is_shortest: bool) -> &'static str
 }
 
 /// What is said of a verdict.
-fn verdict_text(alloc: Global, verdict: &Verdict) -> Result<String, AllocError>
+fn verdict_text(alloc: Global, verdict: &PromiseVerdict) -> Result<String, AllocError>
     ensures { IfOk result (λ text. string_bytes text ≡ verdict_text verdict.now) }
 {
     match verdict {
-        Verdict::Kept => String::from_str(alloc, "kept"),
-        Verdict::Broken(breach) => {
+        PromiseVerdict::Kept => String::from_str(alloc, "kept"),
+        PromiseVerdict::Broken(breach) => {
             let broken = broken_text(breach.is_shortest);
             let jobs = jobs_text(alloc, breach.way.as_slice())?;
             format!(in alloc; "{broken}{jobs}")
         }
-        Verdict::NotDecided(doubt) => {
+        PromiseVerdict::NotDecided(doubt) => {
             let doubt = doubt_text(*doubt);
             format!(in alloc; "not decided: {doubt}")
         }
@@ -74,12 +74,12 @@ fn verdict_text(alloc: Global, verdict: &Verdict) -> Result<String, AllocError>
 }
 
 /// What is said of a phrase.
-fn outcome_text(alloc: Global, outcome: &Outcome) -> Result<String, AllocError>
+fn outcome_text(alloc: Global, outcome: &PhraseFinding) -> Result<String, AllocError>
     ensures { IfOk result (λ text. string_bytes text ≡ outcome_text outcome.now) }
 {
     match outcome {
-        Outcome::NoPromise => String::from_str(alloc, "no promise is written so"),
-        Outcome::Decided(verdict) => verdict_text(alloc, verdict),
+        PhraseFinding::NoPromise => String::from_str(alloc, "no promise is written so"),
+        PhraseFinding::Decided(verdict) => verdict_text(alloc, verdict),
     }
 }
 
@@ -118,11 +118,14 @@ fn step_lines(alloc: Global, way: &[WayStep]) -> Result<String, AllocError>
 }
 
 /// The scenario below the line of a promise, if it is broken.
-fn way_lines(alloc: Global, outcome: &Outcome) -> Result<String, AllocError>
+fn way_lines(alloc: Global, outcome: &PhraseFinding) -> Result<String, AllocError>
     ensures { IfOk result (λ text. string_bytes text ≡ way_lines outcome.now) }
 {
     match outcome {
-        Outcome::Decided(Verdict::Broken(breach)) => step_lines(alloc, breach.way.as_slice()),
+        PhraseFinding::Decided(PromiseVerdict::Broken(breach)) => step_lines(
+            alloc,
+            breach.way.as_slice(),
+        ),
         _ => Ok(String::new(alloc)),
     }
 }
@@ -217,19 +220,19 @@ fn shortest_json(is_shortest: bool) -> &'static str
 }
 
 /// The members that say a verdict.
-fn verdict_members(alloc: Global, verdict: &Verdict) -> Result<String, AllocError>
+fn verdict_members(alloc: Global, verdict: &PromiseVerdict) -> Result<String, AllocError>
     ensures { IfOk result (λ text. string_bytes text ≡ verdict_members verdict.now) }
 {
     match verdict {
-        Verdict::Kept => String::from_str(alloc, "\"verdict\":\"kept\""),
-        Verdict::Broken(breach) => {
+        PromiseVerdict::Kept => String::from_str(alloc, "\"verdict\":\"kept\""),
+        PromiseVerdict::Broken(breach) => {
             let shortest = shortest_json(breach.is_shortest);
             let steps = steps_json(alloc, breach.way.as_slice())?;
             format!(in alloc;
                 "\"verdict\":\"broken\",\"shortest\":{shortest},\"scenario\":[{steps}]"
             )
         }
-        Verdict::NotDecided(doubt) => {
+        PromiseVerdict::NotDecided(doubt) => {
             let doubt = doubt_text(*doubt);
             format!(in alloc; "\"verdict\":\"not decided\",\"reason\":\"{doubt}\"")
         }
@@ -237,12 +240,12 @@ fn verdict_members(alloc: Global, verdict: &Verdict) -> Result<String, AllocErro
 }
 
 /// The members that say what is found of a phrase.
-fn outcome_members(alloc: Global, outcome: &Outcome) -> Result<String, AllocError>
+fn outcome_members(alloc: Global, outcome: &PhraseFinding) -> Result<String, AllocError>
     ensures { IfOk result (λ text. string_bytes text ≡ outcome_members outcome.now) }
 {
     match outcome {
-        Outcome::NoPromise => String::from_str(alloc, "\"verdict\":\"no promise\""),
-        Outcome::Decided(verdict) => verdict_members(alloc, verdict),
+        PhraseFinding::NoPromise => String::from_str(alloc, "\"verdict\":\"no promise\""),
+        PhraseFinding::Decided(verdict) => verdict_members(alloc, verdict),
     }
 }
 

@@ -10,8 +10,8 @@ use Rattle.wh_replay.specs.declared.fault.Fault.TheVariants.{NotATask}
 use Rattle.wh_replay.specs.Replays.{Replayed, replay, ends_in_task}
 use Rattle.wh_replay.specs.Runs.{run_of}
 use Rattle.wh_replay.proofs.Resuming.{state_stays}
-use Rattle.wh_queryable.specs.declared.queryable.QueryResult.{QueryResult}
-use Rattle.wh_queryable.specs.Queries.{Queries, result_in}
+use Rattle.wh_workflow.specs.declared.queryable.QueryResult.{QueryResult}
+use Rattle.wh_workflow.specs.Queries.{Queries, result_in}
 use Rattle.wh_query.specs.Queries.{query_at}
 use Rattle.wh_query.specs.Laws.{QueriesAgree}
 

@@ -7,7 +7,7 @@ use Rattle.wh_events.specs.Places.{history_fault}
 use Rattle.wh_workflow.specs.Law.{Program}
 use Rattle.wh_replay.specs.Replays.{ends_in_task}
 use Rattle.wh_replay.specs.Runs.{confirms}
-use Rattle.wh_queryable.specs.Queries.{Queries}
+use Rattle.wh_workflow.specs.Queries.{Queries}
 use Rattle.wh_query.specs.Queries.{query_at}
 
 -- if new events confirm those that a run holds, all are in place, and no cut is among the new ones, a query gives the

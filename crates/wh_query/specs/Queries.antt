@@ -6,8 +6,8 @@ use Rattle.wh_workflow.specs.Activations.{and_then}
 use Rattle.wh_workflow.specs.Law.{Program}
 use Rattle.wh_replay.specs.declared.fault.Fault.{Fault}
 use Rattle.wh_replay.specs.Checks.{state_after}
-use Rattle.wh_queryable.specs.declared.queryable.QueryResult.{QueryResult}
-use Rattle.wh_queryable.specs.Queries.{Queries, result_in}
+use Rattle.wh_workflow.specs.declared.queryable.QueryResult.{QueryResult}
+use Rattle.wh_workflow.specs.Queries.{Queries, result_in}
 
 -- the result of a query at a history: that in the state which replay of its tasks leaves, or the fault of replay
 abbrev pub query_at : {S : Type 0} → Program S → Queries S → List Event → List ℕ → List Payload

@@ -7,8 +7,8 @@ ghost use Rattle.wh_query.specs.Completed.{completed_part, extends};
 use crate::querying::query_history;
 use std::alloc::Global;
 use wh_events::{Event, EventKind, Payload};
-use wh_queryable::{QueryResult, Queryable};
 use wh_replay::RunFault;
+use wh_workflow::{QueryResult, Queryable};
 
 /// Whether the completed part of a history goes on with an event, by what is known so far:
 /// `is_whole` says that all events before it are part of it. A completed task is, with all before

@@ -2,7 +2,7 @@
 ghost use Rattle.wh_query.specs.Laws.{QueriesAgree};
 ghost use Rattle.wh_query.specs.Completed.{HasCompletedTasks};
 
-use wh_queryable::Queryable;
+use wh_workflow::Queryable;
 
 /// A query gives the same result at a cached run as by replay of its whole history, if the new
 /// events confirm those that the run holds, all events are in place, and none of the new ones is a

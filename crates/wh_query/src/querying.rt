@@ -5,8 +5,8 @@ ghost use Rattle.wh_query.specs.Queries.{query_at};
 
 use std::alloc::Global;
 use wh_events::{Event, OutOfMemory, Payload};
-use wh_queryable::{Query, QueryResult, Queryable, query_state};
 use wh_replay::{ReplayedHistory, Run, RunFault, state_after};
+use wh_workflow::{Query, QueryResult, Queryable, query_state};
 
 /// Returns the result of a query at a run, which stays as it is. Returns `OutOfMemory` if there was
 /// no memory for the result.

@@ -3,8 +3,8 @@ use Rattle.std.specs.Prelude.{ℕ, Bool, List, Option, Some, None, is_some, map,
 use Rattle.std.specs.List.{list_all}
 use Rattle.wh_events.specs.declared.event.Payload.{Payload}
 use Rattle.wh_json.specs.Fields.{document}
-use Rattle.wh_queryable.specs.Queries.{json_payload}
-use Rattle.wh_queryable.specs.declared.queryable.Query.{Query}
+use Rattle.wh_workflow.specs.Queries.{json_payload}
+use Rattle.wh_workflow.specs.declared.queryable.Query.{Query}
 
 -- the word is a JSON text
 abbrev pub is_json : List ℕ → Bool

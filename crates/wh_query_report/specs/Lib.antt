@@ -1,3 +1,4 @@
+pub mod Checked
 pub mod Inputs
 pub mod Queried
 pub mod Texts

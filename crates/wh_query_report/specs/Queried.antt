@@ -1,19 +1,20 @@
 -- What a query of a history file gives.
-use Rattle.std.specs.Prelude.{◌≡◌, ℕ, ◌&&◌, Bool, true, false, List, Result, Ok, Err, if◌then◌else◌}
+use Rattle.std.specs.Prelude.{◌≡◌, ℕ, ◌&&◌, Bool, true, false, List, Result, Ok, Err, IfSome, if◌then◌else◌, string_bytes}
 use Rattle.wh_events.specs.declared.event.Event.{Event}
 use Rattle.wh_json.specs.Events.{history}
 use Rattle.wh_json.specs.declared.fault.ReadFault.{ReadFault}
 use Rattle.wh_workflow.specs.Law.{Program}
 use Rattle.wh_replay.specs.declared.fault.Fault.{Fault}
-use Rattle.wh_queryable.specs.declared.queryable.Query.{Query}
-use Rattle.wh_queryable.specs.declared.queryable.QueryResult.{QueryResult}
-use Rattle.wh_queryable.specs.declared.queryable.QueryResult.TheVariants.{Answered, Failed}
-use Rattle.wh_queryable.specs.Queries.{Queries}
+use Rattle.wh_workflow.specs.declared.queryable.Query.{Query}
+use Rattle.wh_workflow.specs.declared.queryable.QueryResult.{QueryResult}
+use Rattle.wh_workflow.specs.declared.queryable.QueryResult.TheVariants.{Answered, Failed}
+use Rattle.wh_workflow.specs.Queries.{Queries}
 use Rattle.wh_query.specs.Queries.{query_at}
 use Rattle.wh_file_faults.specs.Faults.{File}
 use Rattle.wh_report.specs.Records.{IsRecordOf}
 use Rattle.wh_tester.specs.Faults.{replay_fault_text}
 use Rattle.wh_tester.specs.Report.{fault_text, is_good}
+use Rattle.wh_query_report.specs.Checked.{checked_in, good_record}
 use Rattle.wh_query_report.specs.declared.queried.Queried.{Queried}
 
 -- whether the query gave payloads
@@ -41,8 +42,9 @@ module _ {S : Type 0} where
   abbrev pub file_result : Program S → Queries S → List ℕ → Query → QueryResult
   file_result program queries bytes query = read_result program queries (history bytes) query
 
-  -- the record of the file, and what the query gives at its history
+  -- the record of the file, which is exact if it is good, and what the query gives at its history
   pub record IsQueried (program : Program S) (queries : Queries S) (file : File) (query : Query)
       (queried : Queried) : Type 0 where
     pub own : IsRecordOf false program file queried.own
+    pub good : IfSome (checked_in program file.1.items) (λ found. queried.own ≡ good_record (string_bytes file.0) found)
     pub given : queried.given ≡ file_result program queries file.1.items query

@@ -11,8 +11,8 @@ use Rattle.wh_report.specs.Reports.{json_record}
 use Rattle.wh_report.specs.declared.records.Record.{Record}
 use Rattle.wh_tester.specs.Json.{escaped}
 use Rattle.wh_tester.specs.Report.{line_text, shown}
-use Rattle.wh_queryable.specs.declared.queryable.QueryResult.{QueryResult}
-use Rattle.wh_queryable.specs.declared.queryable.QueryResult.TheVariants.{Answered, Failed}
+use Rattle.wh_workflow.specs.declared.queryable.QueryResult.{QueryResult}
+use Rattle.wh_workflow.specs.declared.queryable.QueryResult.TheVariants.{Answered, Failed}
 use Rattle.wh_query_report.specs.declared.queried.Queried.{Queried}
 
 -- the text is on one line: no byte of it is a line feed

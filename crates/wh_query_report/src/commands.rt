@@ -11,9 +11,9 @@ use std::alloc::Global;
 use std::io;
 use std::io::Write;
 use wh_console::Format;
-use wh_queryable::{Query, QueryResult, Queryable};
 use wh_report::{CommandFault, Record, write_json_record};
 use wh_tester::{is_good, write_line};
+use wh_workflow::{Query, QueryResult, Queryable};
 
 /// Whether a query gave payloads.
 fn is_answered(given: &QueryResult) -> bool

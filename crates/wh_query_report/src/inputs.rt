@@ -2,14 +2,14 @@
 
 ghost use Rattle.std.specs.Prelude.{◌≡◌, IfOk, map, option_map};
 ghost use Rattle.std.specs.List.{list_all};
-ghost use Rattle.wh_queryable.specs.Queries.{json_payload};
+ghost use Rattle.wh_workflow.specs.Queries.{json_payload};
 ghost use Rattle.wh_query_report.specs.Inputs.{is_json, query_of};
 
 use serde_json::Value;
 use serde_json::error::Category;
 use std::alloc::Global;
 use wh_events::{Items, OutOfMemory, Payload, Text};
-use wh_queryable::Query;
+use wh_workflow::Query;
 
 /// Whether bytes are a JSON text in UTF-8 (RFC 8259).
 pub(crate) fn is_json(alloc: Global, bytes: &[u8]) -> Result<bool, OutOfMemory>

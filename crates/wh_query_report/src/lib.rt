@@ -1,6 +1,7 @@
 //! Queries of stored histories: what a query of a history file gives, and its report.
 #![tactic(auto)]
 
+mod checked;
 mod commands;
 mod inputs;
 mod queried;

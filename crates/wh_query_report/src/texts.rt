@@ -1,16 +1,15 @@
 //! The result of a query as text and as JSON.
 
 ghost use Rattle.std.specs.Prelude.{◌≡◌, ◌++◌, IfOk, OnOk, string_bytes};
-ghost use Rattle.wh_query_report.specs.Texts.{after_commas, encoded_payload, is_on_one_line, is_plain, payload_lines};
-ghost use Rattle.wh_query_report.specs.Texts.{payload_list, payload_text, result_as, result_object, result_text};
+ghost use Rattle.wh_query_report.specs.Texts.{after_commas, encoded_payload, is_on_one_line, is_plain, payload_lines, payload_list, payload_text, result_as, result_object, result_text};
 
 use crate::inputs::is_json;
 use base64::engine::general_purpose::STANDARD;
 use std::alloc::Global;
 use wh_console::Format;
 use wh_events::{OutOfMemory, Payload};
-use wh_queryable::QueryResult;
 use wh_tester::{EscapedName, Shown};
+use wh_workflow::QueryResult;
 
 /// Whether a text is on one line.
 fn is_on_one_line(text: &[u8]) -> bool

@@ -201,7 +201,7 @@ impl ScriptedHistory {
     }
 
     /// Lists those of its first `n` tasks that no answer completes.
-    fn failed(
+    fn failed_tasks(
         &self,
         alloc: Global,
         n: usize,
@@ -363,7 +363,7 @@ impl ScriptSource {
     }
 
     /// Counts the polled tasks of the history at a place.
-    fn polled(&self, place: usize, history: &ScriptedHistory) -> usize
+    fn polled_count(&self, place: usize, history: &ScriptedHistory) -> usize
         ensures exact { result ≡ polled_at self.now place history.now }
         ensures within { result ≤ tasks_in history.now }
     {
@@ -382,7 +382,7 @@ impl ScriptSource {
         ensures { result ≡ tally_of self.now name.now }
     {
         let (place, history) = find_named(self.histories.as_slice(), name)?;
-        let tasks = self.polled(place, history);
+        let tasks = self.polled_count(place, history);
         let completed = history.count_completed(tasks, &self.answers);
         Some((
             tasks as u64,
@@ -394,14 +394,14 @@ impl ScriptSource {
     /// Lists those polled tasks of the first history of the name that no answer completes, in their
     /// order, as many as `tally` counts. The list is empty if no history has the name. Returns
     /// `OutOfMemory` if there was no memory for the list.
-    pub fn failed(&self, name: &str) -> Result<Vec<FailedTask>, OutOfMemory>
+    pub fn failed_tasks(&self, name: &str) -> Result<Vec<FailedTask>, OutOfMemory>
         ensures { IfOk result (λ failed. failed.items ≡ failed_in self.now name.now) }
     {
         let Some((place, history)) = find_named(self.histories.as_slice(), name) else {
             return Ok(Vec::new(self.alloc));
         };
-        let tasks = self.polled(place, history);
-        history.failed(self.alloc, tasks, &self.answers)
+        let tasks = self.polled_count(place, history);
+        history.failed_tasks(self.alloc, tasks, &self.answers)
     }
 
     /// Whether one of the histories completes its last task, so that this task has a record.
@@ -422,7 +422,7 @@ impl ScriptSource {
     }
 
     /// Returns the round of the next task and the place of its history, if a task is left.
-    fn upcoming(&self) -> Option<(usize, usize)>
+    fn next_place(&self) -> Option<(usize, usize)>
         ensures exact { result ≡ upcoming self.now }
         ensures within { IfSome result (λ found. found.1 < length self.now.histories) }
         ensures has { IfSome result (λ found. (other : _) →
@@ -465,7 +465,7 @@ impl TaskSource for ScriptSource {
         ensures keeps { KeepsSource (λ source. Gives source.histories) (λ source. Recounts source.histories)
             ComesFrom self.old self.new }
     {
-        let Some((round, place)) = self.upcoming() else {
+        let Some((round, place)) = self.next_place() else {
             return Ok(Polled::Closed);
         };
         let Ok(task) = self.histories[place].task(self.alloc, round) else {
@@ -500,22 +500,19 @@ impl TaskSource for ScriptSource {
         }
     }
 
-    fn answer_workflow(&mut self, name: TaskName, answer: &Answer) -> Result<(), SourceFault>
-        ensures stored { OnOk result (self.new ≡ with_answer self.old name (Sent.Workflow answer.now)) }
+    fn answer_workflow(&mut self, name: TaskName, answer: Answer) -> Result<(), SourceFault>
+        ensures stored { OnOk result (self.new ≡ with_answer self.old name (Sent.Workflow answer)) }
         ensures memory { IfErr result (λ fault. fault ≡ SourceFault.OutOfMemory) }
         ensures kept { OnErr result (self.new ≡ self.old) }
         ensures origin { KeepsOrigin ComesFrom self.old self.new }
     {
-        let Ok(copy) = answer.try_copy(self.alloc) else {
-            return Err(SourceFault::OutOfMemory);
-        };
-        self.answers.store(name, Sent::Workflow(copy))
+        self.answers.store(name, Sent::Workflow(answer))
     }
 
     fn answer_replayed(
         &mut self,
         name: TaskName,
-        answer: &Answer,
+        answer: Answer,
         _events: &[Event],
         _steps: u64,
     ) -> Acceptance {
@@ -531,19 +528,12 @@ impl TaskSource for ScriptSource {
         RunUse::Cache
     }
 
-    fn answer_activity(
-        &mut self,
-        name: TaskName,
-        answer: &ActivityAnswer,
-    ) -> Result<(), SourceFault>
-        ensures stored { OnOk result (self.new ≡ with_answer self.old name (Sent.Activity answer.now)) }
+    fn answer_activity(&mut self, name: TaskName, answer: ActivityAnswer) -> Result<(), SourceFault>
+        ensures stored { OnOk result (self.new ≡ with_answer self.old name (Sent.Activity answer)) }
         ensures memory { IfErr result (λ fault. fault ≡ SourceFault.OutOfMemory) }
         ensures kept { OnErr result (self.new ≡ self.old) }
         ensures origin { KeepsOrigin ComesFrom self.old self.new }
     {
-        let Ok(copy) = answer.try_copy() else {
-            return Err(SourceFault::OutOfMemory);
-        };
-        self.answers.store(name, Sent::Activity(copy))
+        self.answers.store(name, Sent::Activity(answer))
     }
 }

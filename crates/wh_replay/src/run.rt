@@ -50,7 +50,7 @@ pub enum AdvanceFault<W: Workflow> {
 
 impl<W: Workflow> AdvanceFault<W> {
     /// Returns the fault of a replay after which the run is dropped.
-    fn spent(fault: RunFault) -> Self
+    fn without_run(fault: RunFault) -> Self
         ensures { result ≡ spent fault }
     {
         match fault {
@@ -157,7 +157,7 @@ impl<W: Workflow> Run<W> {
             Ok(history) => Ok(Run { key, history }),
             Err(fault) => {
                 drop(key);
-                Err(AdvanceFault::spent(fault))
+                Err(AdvanceFault::without_run(fault))
             }
         }
     }

@@ -42,7 +42,7 @@ pub fn start<W: Workflow>(alloc: Global, kind: &str) -> Result<ReplayState<W::St
 }
 
 /// Returns what is left once the unsent commands are sent.
-pub(crate) fn sent<S>(alloc: Global, replayed: ReplayState<S>) -> ReplayState<S>
+pub(crate) fn send_unsent<S>(alloc: Global, replayed: ReplayState<S>) -> ReplayState<S>
     ensures { (meter : ℕ) → replay_result_of result meter ≡ replay_result replayed.state replayed.versions [] meter }
 {
     let ReplayState {

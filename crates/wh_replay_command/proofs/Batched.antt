@@ -8,11 +8,11 @@ use Rattle.std.proofs.lemmas.Slice.Zip.{AllZip-long}
 use Rattle.wh_console.specs.Consoles.{ConsoleView, Reported}
 use Rattle.wh_replay_command.specs.Batches.{AddsRecords, faulty_of}
 use Rattle.wh_file_faults.specs.Faults.{File}
-use Rattle.wh_files.specs.declared.InputFault.{InputFault}
-use Rattle.wh_progress.proofs.Batched.{stopped_whole, told_in_all as all_told}
-use Rattle.wh_progress.specs.Batches.{reports_after, reported_batches, reports_of, HasStopped, HasStoppedWhole}
-use Rattle.wh_progress.specs.Lines.{end_text}
-use Rattle.wh_progress.specs.declared.mode.ProgressMode.{ProgressMode}
+use Rattle.wh_console.specs.declared.files.InputFault.{InputFault}
+use Rattle.wh_diagnostics.proofs.Batched.{stopped_whole, told_in_all as all_told}
+use Rattle.wh_diagnostics.specs.Batches.{reports_after, reported_batches, reports_of, HasStopped, HasStoppedWhole}
+use Rattle.wh_diagnostics.specs.ProgressLines.{end_text}
+use Rattle.wh_diagnostics.specs.declared.progress_modes.ProgressMode.{ProgressMode}
 use Rattle.wh_report.specs.Records.{AreRecordsOf, IsRecordOf}
 use Rattle.wh_report.specs.declared.records.Record.{Record}
 use Rattle.wh_tester.specs.Report.{is_good}

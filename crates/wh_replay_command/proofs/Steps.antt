@@ -3,6 +3,7 @@ use Rattle.std.proofs.Common.{◌≡◌, ◌∙◌, inr, ℕ, List, ◌∷◌, r
 use Rattle.std.specs.Prelude.{Bool, Option, Result, Ok, Err, IfErr, IfOk, OnOk}
 use Rattle.std.specs.Io.KnownBytes.{Keeps}
 use Rattle.std.specs.Result.{IsErrAnd}
+use Rattle.wh_command_line.specs.declared.replay_options.ReplayOptions.{ReplayOptions}
 use Rattle.wh_console.proofs.Printing.{printed_kept}
 use Rattle.wh_console.specs.Consoles.{ConsoleView, IsQuiet, Printed, Reported}
 use Rattle.wh_console.specs.declared.format.Format.{Format}
@@ -13,16 +14,16 @@ use Rattle.wh_diagnostics.specs.Printing.{status_with}
 use Rattle.wh_diagnostics.specs.declared.failures.Failure.{Failure}
 use Rattle.wh_diagnostics.specs.declared.failures.Failure.TheVariants.{Output}
 use Rattle.wh_file_faults.specs.declared.command_fault.CommandFault.{CommandFault}
-use Rattle.wh_files.specs.Inputs.{IsReadFrom}
-use Rattle.wh_files.specs.declared.Input.{Input}
-use Rattle.wh_files.specs.declared.InputFault.{InputFault}
-use Rattle.wh_files.specs.declared.InputFault.TheVariants as input_faults
-use Rattle.wh_inputs.specs.Listings.{AreListed, is_by_path, lacks_files}
-use Rattle.wh_inputs.specs.Readings.{Gives, IsReadAs}
-use Rattle.wh_progress.proofs.Batched.{whole_after_all}
-use Rattle.wh_progress.specs.Batches.{reports_of, HasStoppedWhole}
-use Rattle.wh_progress.specs.Modes.{mode_by}
-use Rattle.wh_progress.specs.declared.mode.ProgressMode.{ProgressMode}
+use Rattle.wh_console.specs.Inputs.{IsReadFrom}
+use Rattle.wh_console.specs.declared.files.Input.{Input}
+use Rattle.wh_console.specs.declared.files.InputFault.{InputFault}
+use Rattle.wh_console.specs.declared.files.InputFault.TheVariants as input_faults
+use Rattle.wh_diagnostics.specs.Listings.{AreListed, is_by_path, lacks_files}
+use Rattle.wh_diagnostics.specs.Readings.{Gives, IsReadAs}
+use Rattle.wh_diagnostics.proofs.Batched.{whole_after_all}
+use Rattle.wh_diagnostics.specs.Batches.{reports_of, HasStoppedWhole}
+use Rattle.wh_diagnostics.specs.ProgressModes.{mode_by}
+use Rattle.wh_diagnostics.specs.declared.progress_modes.ProgressMode.{ProgressMode}
 use Rattle.wh_replay_command.specs.Batches.{faulty_of}
 use Rattle.wh_replay_command.specs.Replays.{HasNotReplayed, HasNotReplayedPaths, HasReplayed, HasReplayedPaths, HasReported}
 use Rattle.wh_replay_command.proofs.Batched.{as_many}
@@ -47,39 +48,40 @@ report_ended records seen format lacks old first between new (Ok given) own stat
 report_ended records seen format lacks old first between new (Err fault) own status same printed ends quiet kept is reported given_status = absurd cc
 
 -- the inputs of paths were replayed
-pub replayed_paths : {S : Type 0} (program : Program S) (types first : List ℕ) (more : List (List ℕ)) (format : Format) (required strict left_out lacks progress : Bool) (link : Option (List ℕ)) (mode : ProgressMode) (inputs : List Input) (old between new : ConsoleView) (answer : Result ℕ Failure)
+pub replayed_paths : {S : Type 0} (program : Program S) (types first : List ℕ) (more : List (List ℕ)) (options : ReplayOptions) (left_out lacks : Bool) (link : Option (List ℕ)) (mode : ProgressMode) (inputs : List Input) (old between new : ConsoleView) (answer : Result ℕ Failure)
     → AreListed (is_by_path more) (first ∷ more) inputs left_out old between
-    → lacks ≡ lacks_files left_out required inputs
-    → mode ≡ mode_by link progress
-    → IfOk answer (HasReplayed IsReadFrom strict program types inputs format mode lacks between new)
-    → IfOk answer (HasReplayedPaths program types first more format required strict progress old new)
-replayed_paths program types first more format required strict left_out lacks progress link mode inputs old between new (Ok status) listed same shown h =
+    → lacks ≡ lacks_files left_out options.require_files inputs
+    → mode ≡ mode_by link options.progress
+    → IfOk answer (HasReplayed IsReadFrom options program types inputs mode lacks between new)
+    → IfOk answer (HasReplayedPaths program types first more options old new)
+replayed_paths program types first more options left_out lacks link mode inputs old between new (Ok status) listed same shown h =
     record {
-      link = link;
       inputs = inputs;
       left_out = left_out;
       between = between;
       listed = listed;
-      replayed = subst (λ m. HasReplayed IsReadFrom strict program types inputs format m (lacks_files left_out required inputs) between new status) shown
-          (subst (λ l. HasReplayed IsReadFrom strict program types inputs format mode l between new status) same h);
+      done = (
+        link,
+        subst (λ m. HasReplayed IsReadFrom options program types inputs m (lacks_files left_out options.require_files inputs) between new status) shown
+            (subst (λ l. HasReplayed IsReadFrom options program types inputs mode l between new status) same h),
+      );
     }
-replayed_paths program types first more format required strict left_out lacks progress link mode inputs old between new (Err failure) listed same shown h = tt
+replayed_paths program types first more options left_out lacks link mode inputs old between new (Err failure) listed same shown h = tt
 
 -- or the replay stopped after they were listed
-pub stopped_at_paths : {S : Type 0} (program : Program S) (first : List ℕ) (more : List (List ℕ)) (strict left_out progress : Bool) (link : Option (List ℕ)) (mode : ProgressMode) (inputs : List Input) (old between new : ConsoleView) (answer : Result ℕ Failure)
+pub stopped_at_paths : {S : Type 0} (program : Program S) (first : List ℕ) (more : List (List ℕ)) (options : ReplayOptions) (left_out : Bool) (link : Option (List ℕ)) (mode : ProgressMode) (inputs : List Input) (old between new : ConsoleView) (answer : Result ℕ Failure)
     → AreListed (is_by_path more) (first ∷ more) inputs left_out old between
-    → mode ≡ mode_by link progress
-    → IfErr answer (HasNotReplayed IsReadFrom strict program inputs mode between new)
-    → IfErr answer (HasNotReplayedPaths program first more strict progress old new)
-stopped_at_paths program first more strict left_out progress link mode inputs old between new (Ok status) listed shown h = tt
-stopped_at_paths program first more strict left_out progress link mode inputs old between new (Err failure) listed shown h =
+    → mode ≡ mode_by link options.progress
+    → IfErr answer (HasNotReplayed IsReadFrom options.strict_values program inputs mode between new)
+    → IfErr answer (HasNotReplayedPaths program first more options old new)
+stopped_at_paths program first more options left_out link mode inputs old between new (Ok status) listed shown h = tt
+stopped_at_paths program first more options left_out link mode inputs old between new (Err failure) listed shown h =
     inr (record {
-      link = link;
       inputs = inputs;
       left_out = left_out;
       between = between;
       listed = listed;
-      stopped = subst (λ m. HasNotReplayed IsReadFrom strict program inputs m between new failure) shown h;
+      done = (link, subst (λ m. HasNotReplayed IsReadFrom options.strict_values program inputs m between new failure) shown h);
     })
 
 -- an input that can't be read is no fault of the output

@@ -1,6 +1,7 @@
 -- What replay of files writes and reports.
 use Rattle.std.specs.Prelude.{◌≡◌, ◌≢◌, ◌⊎◌, ℕ, List, ◌∷◌, Bool, Option}
 use Rattle.std.specs.List.{list_any}
+use Rattle.wh_command_line.specs.declared.replay_options.ReplayOptions.{ReplayOptions}
 use Rattle.wh_console.specs.Consoles.{ConsoleView, IsQuiet, Printed, Reported}
 use Rattle.wh_console.specs.declared.format.Format.{Format}
 use Rattle.wh_diagnostics.specs.Diagnostics.{records_lines}
@@ -8,15 +9,15 @@ use Rattle.wh_diagnostics.specs.Failures.{IsReportFailure}
 use Rattle.wh_diagnostics.specs.Printing.{status_with}
 use Rattle.wh_diagnostics.specs.declared.failures.Failure.{Failure}
 use Rattle.wh_diagnostics.specs.declared.failures.Failure.TheVariants.{Output}
-use Rattle.wh_files.specs.Inputs.{IsReadFrom}
-use Rattle.wh_files.specs.declared.Input.{Input}
+use Rattle.wh_console.specs.Inputs.{IsReadFrom}
+use Rattle.wh_console.specs.declared.files.Input.{Input}
 use Rattle.wh_replay_command.specs.Batches.{faulty_of}
-use Rattle.wh_inputs.specs.Listings.{AreListed, AreUnlisted, is_by_path, lacks_files}
-use Rattle.wh_inputs.specs.Readings.{Gives, IsReadAs}
-use Rattle.wh_known_types.specs.Types.{known_types_text, lacks_code}
-use Rattle.wh_progress.specs.Batches.{HasStoppedWhole, reports_of}
-use Rattle.wh_progress.specs.Modes.{mode_by}
-use Rattle.wh_progress.specs.declared.mode.ProgressMode.{ProgressMode}
+use Rattle.wh_diagnostics.specs.Listings.{AfterListing, AreListed, AreUnlisted, is_by_path, lacks_files}
+use Rattle.wh_diagnostics.specs.Readings.{Gives, IsReadAs}
+use Rattle.wh_diagnostics.specs.KnownTypes.{known_types_text, lacks_code}
+use Rattle.wh_diagnostics.specs.Batches.{HasStoppedWhole, reports_of}
+use Rattle.wh_diagnostics.specs.ProgressModes.{mode_by}
+use Rattle.wh_diagnostics.specs.declared.progress_modes.ProgressMode.{ProgressMode}
 use Rattle.wh_report.specs.Records.{AreRecordsOf}
 use Rattle.wh_report.specs.Reports.{records_status, report_as}
 use Rattle.wh_report.specs.declared.records.Record.{Record}
@@ -34,16 +35,15 @@ pub record HasReported (records : List Record) (format : Format) (lacks : Bool) 
 -- inputs were read as files and replayed, progress was reported, and then the report of their records was written,
 -- which does not depend on how progress is shown; last the registered workflow types were reported, if a file has
 -- another one
-pub record HasReplayed {S : Type 0} (gives : Gives) (strict : Bool) (program : Program S) (types : List ℕ)
-    (inputs : List Input) (format : Format) (mode : ProgressMode) (lacks : Bool) (old new : ConsoleView) (status : ℕ)
-    : Type 0 where
+pub record HasReplayed {S : Type 0} (gives : Gives) (options : ReplayOptions) (program : Program S) (types : List ℕ)
+    (inputs : List Input) (mode : ProgressMode) (lacks : Bool) (old new : ConsoleView) (status : ℕ) : Type 0 where
   pub records : List Record
   pub between : ConsoleView
   pub ended : ConsoleView
-  pub found : AreRecordsOf strict program (IsReadAs gives) inputs records
+  pub found : AreRecordsOf options.strict_values program (IsReadAs gives) inputs records
   pub told : Reported old between (reports_of mode (faulty_of records))
-  pub reported : HasReported records format lacks between ended status
-  pub known : Reported ended new (known_types_text types (list_any (λ own. lacks_code own.cause) records))
+  pub reported : HasReported records options.format lacks between ended status
+  pub known : Reported ended new (known_types_text types (list_any (λ own. lacks_code own.detail) records))
 
 -- all inputs were read as files and replayed, and all of progress was reported
 pub record HasReplayedAll {S : Type 0} (gives : Gives) (strict : Bool) (program : Program S) (inputs : List Input)
@@ -66,29 +66,20 @@ pub record HasNotReplayed {S : Type 0} (gives : Gives) (strict : Bool) (program 
 
 -- what paths name was replayed, and progress was reported as some link of the standard error and the option for it have
 -- it
-pub record HasReplayedPaths {S : Type 0} (program : Program S) (types first : List ℕ) (more : List (List ℕ))
-    (format : Format) (required strict progress : Bool) (old new : ConsoleView) (status : ℕ) : Type 0 where
-  pub link : Option (List ℕ)
-  pub inputs : List Input
-  pub left_out : Bool
-  pub between : ConsoleView
-  pub listed : AreListed (is_by_path more) (first ∷ more) inputs left_out old between
-  pub replayed : HasReplayed IsReadFrom strict program types inputs format (mode_by link progress)
-      (lacks_files left_out required inputs) between new status
+abbrev pub HasReplayedPaths : {S : Type 0} → Program S → (types first : List ℕ) → (more : List (List ℕ))
+    → ReplayOptions → (old new : ConsoleView) → (status : ℕ) → Type 0
+HasReplayedPaths program types first more options =
+    AfterListing (AreListed (is_by_path more) (first ∷ more)) (λ inputs left_out old new status.
+    (link : Option (List ℕ)) × HasReplayed IsReadFrom options program types inputs (mode_by link options.progress)
+    (lacks_files left_out options.require_files inputs) old new status)
 
--- what paths name was listed, and there is no report of its replay, or it can't be written
-pub record HasStoppedAtPaths {S : Type 0} (program : Program S) (first : List ℕ) (more : List (List ℕ))
-    (strict progress : Bool) (old new : ConsoleView) (failure : Failure) : Type 0 where
-  pub link : Option (List ℕ)
-  pub inputs : List Input
-  pub left_out : Bool
-  pub between : ConsoleView
-  pub listed : AreListed (is_by_path more) (first ∷ more) inputs left_out old between
-  pub stopped : HasNotReplayed IsReadFrom strict program inputs (mode_by link progress) between new failure
-
--- there is no report of a replay of what paths name: one of them can't be listed, or there is none of their files
+-- there is no report of a replay of what paths name: one of them can't be listed, or their files have none, or it can't
+-- be written
 abbrev pub HasNotReplayedPaths : {S : Type 0} → Program S → (first : List ℕ) → (more : List (List ℕ))
-    → (strict progress : Bool) → (old new : ConsoleView) → Failure → Type 0
-HasNotReplayedPaths program first more strict progress old new failure =
+    → ReplayOptions → (old new : ConsoleView) → Failure → Type 0
+HasNotReplayedPaths program first more options old new failure =
     AreUnlisted (is_by_path more) (first ∷ more) old new failure
-    ⊎ HasStoppedAtPaths program first more strict progress old new failure
+    ⊎ AfterListing (AreListed (is_by_path more) (first ∷ more)) (λ inputs left_out old new failure.
+    (link : Option (List ℕ))
+    × HasNotReplayed IsReadFrom options.strict_values program inputs (mode_by link options.progress) old new failure)
+    old new failure

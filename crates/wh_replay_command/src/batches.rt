@@ -3,19 +3,17 @@
 ghost use Rattle.std.specs.Prelude.{◌≡◌, IfErr, IfOk, OnOk, count_by, length};
 ghost use Rattle.wh_console.specs.Consoles.{Reported};
 ghost use Rattle.wh_replay_command.specs.Batches.{AddsRecords, faulty_of};
-ghost use Rattle.wh_inputs.specs.Readings.{IsReadAs};
-ghost use Rattle.wh_progress.specs.Batches.{HasStopped, HasStoppedWhole, reports_after, reported_batches};
-ghost use Rattle.wh_progress.specs.Batches.{reports_of};
-ghost use Rattle.wh_progress.specs.Lines.{progress_of};
+ghost use Rattle.wh_diagnostics.specs.Readings.{IsReadAs};
+ghost use Rattle.wh_diagnostics.specs.Batches.{HasStopped, HasStoppedWhole, reports_after, reported_batches, reports_of};
+ghost use Rattle.wh_diagnostics.specs.ProgressLines.{progress_of};
 ghost use Rattle.wh_report.specs.Records.{AreRecordsOf};
 
 use std::io::Write;
 use std::thread::Threads;
-use wh_console::Console;
-use wh_files::{Input, InputFault};
-use wh_inputs::{InputReader, file_from};
-use wh_progress::{
-    Progress, ProgressEnd, ProgressLine, ProgressMode, batch_size, reported_batches,
+use wh_console::{Console, Input, InputFault};
+use wh_diagnostics::{
+    InputReader, Progress, ProgressEnd, ProgressLine, ProgressMode, batch_size, file_from,
+    reported_batches,
 };
 use wh_report::{Record, check_all};
 use wh_tester::is_good;

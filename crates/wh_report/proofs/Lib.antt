@@ -1,3 +1,3 @@
 pub mod Lines
 pub mod Collected
-pub mod Causes
+pub mod Parsed

@@ -7,14 +7,14 @@ use Rattle.std.proofs.lemmas.List.{length-map}
 use Rattle.std.proofs.lemmas.List.Folds.{flat_map-map, fold-map, list_all-map}
 use Rattle.wh_tester.specs.Json.{following, open_line}
 use Rattle.wh_tester.specs.Report.{good_count, line_text, report, totals_line}
-use Rattle.wh_verdict.specs.declared.line.Line.{Line}
+use Rattle.wh_tester.specs.declared.line.Line.{Line}
 use Rattle.wh_report.specs.declared.records.Record.{Record}
-use Rattle.wh_fault_details.specs.Texts.{detail_members}
+use Rattle.wh_file_faults.specs.DetailTexts.{detail_members}
 use Rattle.wh_phrases.proofs.Lines.{open_and_closed as closed}
 use Rattle.wh_phrases.specs.Json.{difference_members}
-use Rattle.wh_values.specs.Texts.{value_object}
-use Rattle.wh_values.specs.declared.comparing.OtherValue.{OtherValue}
-use Rattle.wh_report.specs.Reports.{cause_members, json_record, lines_of, members_after, object_after, warning_members}
+use Rattle.wh_phrases.specs.Texts.{value_object}
+use Rattle.wh_phrases.specs.declared.comparing.OtherValue.{OtherValue}
+use Rattle.wh_report.specs.Reports.{json_record, lines_of, members_after, object_after, warning_members}
 
 -- how many values pass, of what is made of others
 pub count_by_map : {A B : Type 0} (p : B → Bool) (f : A → B) (xs : List A) → count_by p (map f xs) ≡ count_by (λ x. p (f x)) xs
@@ -38,18 +38,14 @@ warnings_written first others =
     ∙ sym (append-nil (codes "," ++ own))
 
 -- the members of a record are written one part after another
-pub members_written : (own : Record) → (following (cause_members own.cause) ++ (following (detail_members own.detail) ++ following (difference_members own.difference))) ++ following (warning_members own.warnings) ≡ following (members_after own)
+pub members_written : (own : Record) → (following (detail_members own.detail) ++ following (difference_members own.difference)) ++ following (warning_members own.warnings) ≡ following (members_after own)
 members_written own =
-    let first = cause_members own.cause in
-    let second = detail_members own.detail in
-    let third = difference_members own.difference in
-    let fourth = warning_members own.warnings in
-    append_assoc (following first) (following second ++ following third) (following fourth)
-    ∙ ap (λ l. following first ++ l)
-    (append_assoc (following second) (following third) (following fourth)
-    ∙ ap (λ l. following second ++ l) (both_follow third fourth)
-    ∙ both_follow second (third ++ fourth))
-    ∙ both_follow first (second ++ (third ++ fourth))
+    let first = detail_members own.detail in
+    let second = difference_members own.difference in
+    let third = warning_members own.warnings in
+    append_assoc (following first) (following second) (following third)
+    ∙ ap (λ l. following first ++ l) (both_follow second third)
+    ∙ both_follow first (second ++ third)
 
 -- the object of a record is closed after them
 pub object_written : (own : Record) → (open_line own.line ++ following (members_after own)) ++ codes "}\n" ≡ json_record own

@@ -1,15 +1,17 @@
 -- The records of files.
-use Rattle.std.specs.Prelude.{◌≡◌, ◌≢◌, ℕ, Bool, true, false, List, [], IfSome}
+use Rattle.std.specs.Prelude.{◌≡◌, ◌≢◌, ℕ, Bool, true, false, List, []}
 use Rattle.std.specs.List.{AllZip}
 use Rattle.wh_workflow.specs.Law.{Program}
-use Rattle.wh_verdict.specs.declared.line.Verdict.{Verdict}
-use Rattle.wh_verdict.specs.declared.line.Verdict.TheVariants.{OutOfMemory}
-use Rattle.wh_verdict.specs.Verdicts.{IsLineOf}
+use Rattle.wh_tester.specs.declared.line.Verdict.{Verdict}
+use Rattle.wh_tester.specs.declared.line.Verdict.TheVariants.{OutOfMemory}
+use Rattle.wh_tester.specs.Verdicts.{IsLineOf}
 use Rattle.wh_explain.specs.Differences.{IsDifferenceIn}
-use Rattle.wh_fault_details.specs.Details.{detail_of}
-use Rattle.wh_file_faults.specs.Faults.{File, IsCauseIn, IsCauseOf}
-use Rattle.wh_values.specs.Checked.{AreOtherValues}
-use Rattle.wh_values.specs.declared.comparing.OtherValue.{OtherValue}
+use Rattle.wh_explain.specs.Explaining.{unknown_in}
+use Rattle.wh_file_faults.specs.Details.{IsDetailBy}
+use Rattle.wh_file_faults.specs.Faults.{File}
+use Rattle.wh_json.specs.Events.{history}
+use Rattle.wh_phrases.specs.Checked.{AreOtherValues}
+use Rattle.wh_phrases.specs.declared.comparing.OtherValue.{OtherValue}
 use Rattle.wh_report.specs.declared.records.Record.{Record}
 
 -- the warnings of a file with this verdict: if values are strict, those that differ, and else none
@@ -18,14 +20,11 @@ abbrev pub AreWarnings : {S : Type 0} → (strict : Bool) → Program S → (byt
 AreWarnings true program bytes verdict warnings = AreOtherValues program bytes verdict warnings
 AreWarnings false program bytes verdict warnings = warnings ≡ []
 
--- the record of a file: its line, its cause, if it has one, what its fault omits, the difference that its replay
--- stops at, if there is one, and its warnings; if memory ran out there are no warnings, and nothing is known of a cause
--- but that it is one, nor of a difference
+-- the record of a file: its line, what its fault omits, the difference that its replay stops at, if there is one, and its
+-- warnings; if memory ran out there is no detail and no warning, and nothing is known of a difference
 pub record IsRecordOf {S : Type 0} (strict : Bool) (program : Program S) (file : File) (own : Record) : Type 0 where
   pub line : IsLineOf program file own.line
-  pub known : IfSome own.cause (IsCauseOf program file.1.items)
-  pub cause : own.line.verdict ≢ OutOfMemory → IsCauseIn program file.1.items own.cause
-  pub detail : own.detail ≡ detail_of own.line.verdict file.1.items
+  pub detail : IsDetailBy (unknown_in program (history file.1.items)) own.line.verdict file.1.items own.detail
   pub difference : own.line.verdict ≢ OutOfMemory → IsDifferenceIn program file.1.items own.difference
   pub warnings : own.line.verdict ≢ OutOfMemory
       → AreWarnings strict program file.1.items own.line.verdict own.warnings

@@ -3,24 +3,14 @@ use Rattle.std.specs.Prelude.{ℕ, List, [], ◌∷◌, ◌++◌, map, codes, de
 use Rattle.std.specs.List.{flat_map, list_any}
 use Rattle.wh_tester.specs.Json.{json_totals, plain_member, text_member}
 use Rattle.wh_tester.specs.Report.{all_good, report, shown}
-use Rattle.wh_verdict.specs.declared.line.Line.{Line}
+use Rattle.wh_tester.specs.declared.line.Line.{Line}
 use Rattle.wh_phrases.specs.Json.{difference_members, json_line_with}
-use Rattle.wh_fault_details.specs.Texts.{detail_members}
-use Rattle.wh_file_faults.specs.declared.file_faults.Cause.{Cause}
-use Rattle.wh_file_faults.specs.declared.file_faults.Cause.TheVariants.{NotJson, NoCode}
-use Rattle.wh_file_faults.specs.declared.file_faults.FileFault.{FileFault}
+use Rattle.wh_file_faults.specs.DetailTexts.{detail_members}
 use Rattle.wh_console.specs.declared.format.Format.{Format}
 use Rattle.wh_console.specs.declared.format.Format.TheVariants.{Text, Json}
-use Rattle.wh_values.specs.Texts.{value_object}
-use Rattle.wh_values.specs.declared.comparing.OtherValue.{OtherValue}
+use Rattle.wh_phrases.specs.Texts.{value_object}
+use Rattle.wh_phrases.specs.declared.comparing.OtherValue.{OtherValue}
 use Rattle.wh_report.specs.declared.records.Record.{Record}
-
--- the members of a cause: `"line":LINE` and `"column":COLUMN` of a file that is not JSON, or `"workflowType":"TYPE"`
-abbrev pub cause_members : Option Cause → List (List ℕ)
-cause_members None = []
-cause_members (Some (NotJson position mark)) =
-    plain_member (codes "line") (decimal position.line) ∷ plain_member (codes "column") (decimal position.column) ∷ []
-cause_members (Some (NoCode kind)) = text_member (codes "workflowType") (shown kind) ∷ []
 
 -- the object of a value that differs, after others
 abbrev pub object_after : OtherValue → List ℕ
@@ -35,8 +25,7 @@ warning_members (first ∷ others) =
 -- what the object of a file has after the text of its fault
 abbrev pub members_after : Record → List (List ℕ)
 members_after own =
-    cause_members own.cause ++ (detail_members own.detail
-    ++ (difference_members own.difference ++ warning_members own.warnings))
+    detail_members own.detail ++ (difference_members own.difference ++ warning_members own.warnings)
 
 -- the line of a file as JSON
 abbrev pub json_record : Record → List ℕ
@@ -60,8 +49,3 @@ some_value (first ∷ others) = true
 abbrev pub records_status : List Record → ℕ
 records_status records =
     if all_good (lines_of records) then (if list_any (λ own. some_value own.warnings) records then 3 else 0) else 1
-
--- why a file is named beside the report, if it is
-abbrev pub fault_of : Record → Option Cause → List FileFault
-fault_of own None = []
-fault_of own (Some cause) = record { name = own.line.name; cause = cause } ∷ []

@@ -12,9 +12,8 @@ use crate::reports::report;
 use std::alloc::Global;
 use std::io::Write;
 use std::thread::Threads;
-use wh_console::Format;
+use wh_console::{Format, InputFault};
 use wh_file_faults::CommandFault;
-use wh_files::InputFault;
 use wh_workflow::Workflow;
 
 /// Replays files, given by name and bytes, and writes their report. The status is 0 if each file is

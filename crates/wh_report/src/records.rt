@@ -1,25 +1,22 @@
 //! The record of a file: what came of it.
 
-ghost use Rattle.std.specs.Prelude.{◌≡◌, ◌≢◌, ◌≤◌, Err, IfErr, IfOk, IfSome, MatchResult, None, Ok, Some, [], length};
-ghost use Rattle.wh_fault_details.specs.Details.{detail_of};
-ghost use Rattle.wh_file_faults.specs.Faults.{IsCauseIn, IsCauseOf};
+ghost use Rattle.std.specs.Prelude.{◌≡◌, ◌≢◌, Err, IfErr, IfOk, MatchResult, None, Ok, []};
 ghost use Rattle.wh_file_faults.specs.Made.{IsFaultIn};
-ghost use Rattle.wh_json.specs.Events.{history, longest};
+ghost use Rattle.wh_json.specs.Events.{history};
 ghost use Rattle.wh_explain.specs.Differences.{IsDifferenceIn};
 ghost use Rattle.wh_explain.specs.Explaining.{unknown_in};
 ghost use Rattle.wh_report.specs.Records.{AreRecordsOf, AreWarnings, IsRecordOf, IsRecordOfInput};
-ghost use Rattle.wh_verdict.specs.Verdicts.{IsVerdict};
+ghost use Rattle.wh_tester.specs.Verdicts.{IsVerdict};
 
 use rayon::prelude::*;
 use std::alloc::Global;
 use std::thread::Threads;
+use wh_console::InputFault;
 use wh_events::{Items, OutOfMemory, Text};
 use wh_explain::{Finding, Pairing, check_file};
-use wh_fault_details::{FaultDetail, detail_of};
-use wh_file_faults::{Cause, unread_cause};
-use wh_files::InputFault;
-use wh_values::{OtherValue, check_values};
-use wh_verdict::{Line, Verdict};
+use wh_file_faults::{FaultDetail, file_detail};
+use wh_phrases::{OtherValue, check_values};
+use wh_tester::{Line, Verdict};
 use wh_workflow::Workflow;
 
 /// What came of a history file.
@@ -27,64 +24,13 @@ use wh_workflow::Workflow;
 pub struct Record {
     /// Its name, and the verdict on its bytes.
     pub line: Line,
-    /// Where it is not JSON, or its workflow type, if that is not registered.
-    pub cause: Option<Cause>,
-    /// What its fault omits: the field that an event lacks, or what one that is not in place
-    /// contradicts.
+    /// What its fault omits: where it is not JSON, its workflow type, if that is not registered, the
+    /// field that an event lacks, or what one that is not in place contradicts.
     pub detail: Option<FaultDetail>,
     /// What is sent and what is recorded, if the replay stops since they differ.
     pub difference: Option<Pairing>,
     /// The values that differ from what is recorded, if these are asked for and the file is good.
     pub warnings: Items<OtherValue>,
-}
-
-/// Why a file with this verdict and these bytes is named beside the report: its workflow type is
-/// not registered, or it is not JSON. `OutOfMemory` if there was no memory to find out.
-#[tactic(auto, using(crate::proofs::Causes::unread_is_cause, crate::proofs::Causes::unread_is_known))]
-fn cause_of<W: Workflow>(
-    alloc: Global,
-    unknown: Option<Text>,
-    verdict: &Verdict,
-    bytes: &[u8],
-) -> Result<Option<Cause>, OutOfMemory>
-    requires verdict { IsVerdict W.program bytes.now verdict.now }
-    requires known { IfSome unknown (λ kind. unknown_in W.program (history bytes.now) ≡ Some kind) }
-    requires code { verdict.now ≢ Verdict.OutOfMemory → unknown ≡ unknown_in W.program (history bytes.now) }
-    ensures known { IfOk result (λ cause. IfSome cause (IsCauseOf W.program bytes.now)) }
-    ensures cause { verdict.now ≢ Verdict.OutOfMemory → IfOk result (IsCauseIn W.program bytes.now) }
-    ensures memory { IfErr result (λ _. length bytes.now ≤ longest) }
-{
-    match unknown {
-        Some(kind) => Ok(Some(Cause::NoCode { kind })),
-        None => unread_cause(alloc, verdict, bytes),
-    }
-}
-
-/// Why a file with this verdict and these bytes is named beside the report, and what its fault
-/// omits. `OutOfMemory` if there was no memory to read the bytes once more for that.
-fn notes_of<W: Workflow>(
-    alloc: Global,
-    unknown: Option<Text>,
-    verdict: &Verdict,
-    bytes: &[u8],
-) -> Result<(Option<Cause>, Option<FaultDetail>), OutOfMemory>
-    requires verdict { IsVerdict W.program bytes.now verdict.now }
-    requires known { IfSome unknown (λ kind. unknown_in W.program (history bytes.now) ≡ Some kind) }
-    requires code { verdict.now ≢ Verdict.OutOfMemory → unknown ≡ unknown_in W.program (history bytes.now) }
-    ensures known { IfOk result (λ notes. IfSome notes.0 (IsCauseOf W.program bytes.now)) }
-    ensures cause { verdict.now ≢ Verdict.OutOfMemory
-        → IfOk result (λ notes. IsCauseIn W.program bytes.now notes.0) }
-    ensures detail { IfOk result (λ notes. notes.1 ≡ detail_of verdict.now bytes.now) }
-    ensures memory { IfErr result (λ _. length bytes.now ≤ longest) }
-{
-    let cause = cause_of::<W>(alloc, unknown, verdict, bytes)?;
-    match detail_of(alloc, verdict, bytes) {
-        Ok(detail) => Ok((cause, detail)),
-        Err(full) => {
-            drop(cause);
-            Err(full)
-        }
-    }
 }
 
 /// What the replay of a file finds, and its warnings: if values are strict, those that differ from
@@ -93,7 +39,6 @@ fn found_in<W: Workflow>(alloc: Global, strict: bool, bytes: &[u8]) -> (Finding,
     ensures verdict { IsVerdict W.program bytes.now result.0.verdict }
     ensures unknown { result.0.verdict ≢ Verdict.OutOfMemory
         → result.0.unknown ≡ unknown_in W.program (history bytes.now) }
-    ensures named { IfSome result.0.unknown (λ kind. unknown_in W.program (history bytes.now) ≡ Some kind) }
     ensures difference { result.0.verdict ≢ Verdict.OutOfMemory
         → IsDifferenceIn W.program bytes.now result.0.difference }
     ensures warnings { result.0.verdict ≢ Verdict.OutOfMemory
@@ -110,7 +55,6 @@ fn found_in<W: Workflow>(alloc: Global, strict: bool, bytes: &[u8]) -> (Finding,
 /// The record of a file for which there was no memory.
 fn no_memory(alloc: Global, name: Text) -> Record
     ensures line { result.line ≡ record { name = name; verdict = Verdict.OutOfMemory } }
-    ensures cause { result.cause ≡ None }
     ensures detail { result.detail ≡ None }
     ensures difference { result.difference ≡ None }
     ensures warnings { result.warnings ≡ [] }
@@ -120,7 +64,6 @@ fn no_memory(alloc: Global, name: Text) -> Record
             name,
             verdict: Verdict::OutOfMemory,
         },
-        cause: None,
         detail: None,
         difference: None,
         warnings: Items::new(Vec::new(alloc)),
@@ -128,9 +71,9 @@ fn no_memory(alloc: Global, name: Text) -> Record
 }
 
 /// The record of a file, whose bytes are kept no longer, with warnings if values are strict. Its
-/// verdict is `OutOfMemory` also if there was no memory to read the bytes once more for what
-/// stands beside a fault.
-#[tactic(auto, using(crate::proofs::Causes::no_memory_is))]
+/// verdict is `OutOfMemory` also if there was no memory to read the bytes once more for the detail
+/// of a fault.
+#[tactic(auto, using(wh_file_faults::proofs::Details::detail_along))]
 pub fn record_of<W: Workflow>(alloc: Global, strict: bool, file: (String, Vec<u8>)) -> Record
     ensures { IsRecordOf strict W.program file result }
 {
@@ -141,13 +84,12 @@ pub fn record_of<W: Workflow>(alloc: Global, strict: bool, file: (String, Vec<u8
         unknown,
         difference,
     } = finding;
-    let notes = notes_of::<W>(alloc, unknown, &verdict, bytes.as_slice());
+    let detail = file_detail(alloc, unknown, &verdict, bytes.as_slice());
     drop(bytes);
     let name = Text::new(name);
-    match notes {
-        Ok((cause, detail)) => Record {
+    match detail {
+        Ok(detail) => Record {
             line: Line { name, verdict },
-            cause,
             detail,
             difference,
             warnings: Items::new(warnings),

@@ -1,51 +1,22 @@
 //! The report of records, as text or as JSON.
 
-ghost use Rattle.std.specs.Prelude.{◌≡◌, ◌≢◌, ◌++◌, ◌∷◌, [], Err, IfOk, OnOk, Some, codes};
+ghost use Rattle.std.specs.Prelude.{◌≡◌, ◌≢◌, ◌++◌, ◌∷◌, [], Err, IfOk, OnOk, codes};
 ghost use Rattle.std.specs.List.{flat_map, list_all, list_any};
 ghost use Rattle.std.specs.Io.KnownBytes.{Appends};
 ghost use Rattle.wh_phrases.specs.Json.{difference_members};
-ghost use Rattle.wh_fault_details.specs.Texts.{detail_members};
+ghost use Rattle.wh_file_faults.specs.DetailTexts.{detail_members};
 ghost use Rattle.wh_tester.specs.Json.{following};
-ghost use Rattle.wh_values.specs.Texts.{value_object};
+ghost use Rattle.wh_phrases.specs.Texts.{value_object};
 ghost use Rattle.wh_tester.specs.Report.{all_good, good_count, is_good, line_text};
-ghost use Rattle.wh_report.specs.Reports.{cause_members, json_record, lines_of, members_after};
-ghost use Rattle.wh_report.specs.Reports.{object_after};
-ghost use Rattle.wh_report.specs.Reports.{records_status, report_as, some_value, warning_members};
+ghost use Rattle.wh_report.specs.Reports.{json_record, lines_of, members_after, object_after, records_status, report_as, some_value, warning_members};
 
 use crate::records::Record;
+use std::io;
 use std::io::Write;
-use std::{fmt, io};
 use wh_console::Format;
-use wh_fault_details::DetailMembers;
-use wh_file_faults::{Cause, CommandFault, Position};
-use wh_phrases::DifferenceMembers;
-use wh_tester::{
-    EscapedName, is_good, write_json_totals, write_line, write_open_json_line, write_totals,
-};
-use wh_values::{OtherValue, OtherValueObject};
-use wh_verdict::Line;
-
-/// The members of a cause, each after another one.
-#[derive(Drop)]
-struct CauseMembers<'a>(&'a Option<Cause>);
-
-impl fmt::Display for CauseMembers<'_> {
-    ghost output = { λ m. Some (following (cause_members m.0.now)) };
-
-    fn fmt<W: fmt::Write>(&self, f: &mut fmt::Formatter<W>) -> fmt::Result {
-        match self.0 {
-            None => Ok(()),
-            Some(Cause::NotJson { position, mark: _ }) => {
-                let Position { line, column } = *position;
-                write!(f, ",\"line\":{line},\"column\":{column}")
-            }
-            Some(Cause::NoCode { kind }) => {
-                let kind = EscapedName(kind.get());
-                write!(f, ",\"workflowType\":\"{kind}\"")
-            }
-        }
-    }
-}
+use wh_file_faults::{CommandFault, FaultDetailMembers};
+use wh_phrases::{DifferenceMembers, OtherValue, OtherValueObject};
+use wh_tester::{Line, is_good, write_json_totals, write_line, write_open_json_line, write_totals};
 
 /// Whether a file is good.
 fn is_good_file(own: &Record) -> bool
@@ -161,15 +132,13 @@ fn write_warnings<O: Write>(values: &[OtherValue], writer: &mut O) -> io::Result
 
 /// Writes the members of a file that stand after the text of its fault, but for its warnings.
 fn write_notes<O: Write>(own: &Record, writer: &mut O) -> io::Result<()>
-    ensures { let cause = following (cause_members own.now.cause) in
-        let detail = following (detail_members own.now.detail) in
+    ensures { let detail = following (detail_members own.now.detail) in
         let difference = following (difference_members own.now.difference) in
-        OnOk result (Appends (O.contents writer.old) (O.contents writer.new) (cause ++ (detail ++ difference))) }
+        OnOk result (Appends (O.contents writer.old) (O.contents writer.new) (detail ++ difference)) }
 {
-    let cause = CauseMembers(&own.cause);
-    let detail = DetailMembers(own.detail.as_ref());
+    let detail = FaultDetailMembers(own.detail.as_ref());
     let difference = DifferenceMembers(own.difference.as_ref());
-    write!(writer, "{cause}{detail}{difference}")
+    write!(writer, "{detail}{difference}")
 }
 
 /// Writes the members of a file that stand after the text of its fault.
@@ -205,10 +174,9 @@ fn write_objects<O: Write>(records: &[Record], writer: &mut O) -> io::Result<()>
 /// Writes the report of records: a line for each file, in their order, and then a line with the
 /// number of files and of good ones. As JSON (RFC 8259) each is an object, that of a file as
 /// `wh_tester::write_json_line` writes it, and that of the totals with `files` and `ok`. The object
-/// of a file has after the text of its fault: `line` and `column`, if it is not JSON;
-/// `workflowType`, if that is not registered; what its fault omits, as
-/// `wh_fault_details::DetailMembers` writes it; what is sent and what is recorded, if they differ;
-/// and `warnings`, the list of its values that differ, each with `event`, `kind`, `sent` and
+/// of a file has after the text of its fault: what that omits, as
+/// `wh_file_faults::FaultDetailMembers` writes it; what is sent and what is recorded, if they
+/// differ; and `warnings`, the list of its values that differ, each with `event`, `kind`, `sent` and
 /// `recorded`, if there are some. Each line goes to the writer as it is made. After an error some
 /// of the report may have been written.
 pub fn write_report<O: Write>(records: &[Record], format: Format, writer: &mut O) -> io::Result<()>

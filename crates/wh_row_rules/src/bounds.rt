@@ -4,10 +4,10 @@ ghost use Rattle.wh_rows.specs.Rows.{count_of};
 ghost use Rattle.wh_rows.specs.Rules.{condition_bounded, conditions_bounded, effect_bounded, effects_bounded};
 ghost use Rattle.wh_rows.specs.Rules.{place_of, implies, follows, all_follow};
 
-use wh_rows::{Condition, Counter, Counts, Effect};
+use wh_rows::{Condition, Counter, Counters, RowEffect};
 
 /// Returns the bound of a counter.
-fn count_of(counter: Counter, bounds: Counts) -> u64
+fn count_of(counter: Counter, bounds: Counters) -> u64
     ensures { result ≡ count_of counter bounds }
 {
     match counter {
@@ -19,7 +19,7 @@ fn count_of(counter: Counter, bounds: Counts) -> u64
 }
 
 /// Returns whether the condition compares with no number above the bound of its counter.
-fn condition_bounded(bounds: Counts, condition: Condition) -> bool
+fn condition_bounded(bounds: Counters, condition: Condition) -> bool
     ensures { result ≡ condition_bounded bounds condition }
 {
     match condition {
@@ -29,7 +29,7 @@ fn condition_bounded(bounds: Counts, condition: Condition) -> bool
 }
 
 /// Returns whether no condition compares with a number above the bound of its counter.
-pub(crate) fn conditions_bounded(bounds: Counts, conditions: &[Condition]) -> bool
+pub(crate) fn conditions_bounded(bounds: Counters, conditions: &[Condition]) -> bool
     ensures { result ≡ conditions_bounded bounds conditions.now }
 {
     for condition in conditions {
@@ -41,17 +41,17 @@ pub(crate) fn conditions_bounded(bounds: Counts, conditions: &[Condition]) -> bo
 }
 
 /// Returns whether the effect raises no counter without a bound.
-fn effect_bounded(bounds: Counts, effect: Effect) -> bool
+fn effect_bounded(bounds: Counters, effect: RowEffect) -> bool
     ensures { result ≡ effect_bounded bounds effect }
 {
     match effect {
-        Effect::Up(counter) => 1 <= count_of(counter, bounds),
+        RowEffect::Up(counter) => 1 <= count_of(counter, bounds),
         _ => true,
     }
 }
 
 /// Returns whether no effect raises a counter without a bound.
-pub(crate) fn effects_bounded(bounds: Counts, effects: &[Effect]) -> bool
+pub(crate) fn effects_bounded(bounds: Counters, effects: &[RowEffect]) -> bool
     ensures { result ≡ effects_bounded bounds effects.now }
 {
     for effect in effects {

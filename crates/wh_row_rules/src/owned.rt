@@ -1,10 +1,10 @@
 //! Tables that own their texts and lists.
 
 use wh_events::{Items, Text};
-use wh_rows::{CommandTemplate, Condition, Counts, Effect, Naming, RowOf};
+use wh_rows::{CommandTemplate, Condition, Counters, Naming, RowEffect, RowOf};
 
 /// A row of a table that was read.
-pub type OwnedRow = RowOf<Text, Items<Condition>, Items<CommandTemplate<Text>>, Items<Effect>>;
+pub type OwnedRow = RowOf<Text, Items<Condition>, Items<CommandTemplate<Text>>, Items<RowEffect>>;
 
 /// A table that was read.
 #[derive(Drop)]
@@ -14,7 +14,7 @@ pub struct OwnedTable {
     /// How its runs are named.
     pub name: Naming<Text>,
     /// The bound of each counter, 0 for one that is not used.
-    pub bounds: Counts,
+    pub bounds: Counters,
     /// The rows. The first one that fits applies.
     pub rows: Items<OwnedRow>,
 }

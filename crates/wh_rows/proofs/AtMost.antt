@@ -10,9 +10,9 @@ use Rattle.wh_rows.specs.declared.row.Condition.{Condition}
 use Rattle.wh_rows.specs.declared.row.Condition.TheVariants as conditions
 use Rattle.wh_rows.specs.declared.row.Counter.{Counter}
 use Rattle.wh_rows.specs.declared.row.Counter.TheVariants as counters
-use Rattle.wh_rows.specs.declared.row.Effect.{Effect}
-use Rattle.wh_rows.specs.declared.row.Effect.TheVariants as effects
-use Rattle.wh_rows.specs.declared.row.Counts.{Counts}
+use Rattle.wh_rows.specs.declared.row.RowEffect.{RowEffect}
+use Rattle.wh_rows.specs.declared.row.RowEffect.TheVariants as effects
+use Rattle.wh_rows.specs.declared.row.Counters.{Counters}
 use Rattle.wh_rows.specs.declared.row.RowsState.{RowsState}
 use Rattle.wh_rows.specs.Naming.{name_by}
 use Rattle.wh_rows.specs.Tables.{CommandTemplate, Row, Definition}
@@ -43,7 +43,7 @@ place_same counters.D counters.C is = cc
 place_same counters.D counters.D is = refl
 
 -- the number of another counter does not change it
-pub other_stays : (other counter : Counter) (counts : Counts) (value : ℕ) → nat_eq (place_of other) (place_of counter) ≡ false
+pub other_stays : (other counter : Counter) (counts : Counters) (value : ℕ) → nat_eq (place_of other) (place_of counter) ≡ false
     → count_of counter (with_count other counts value) ≡ count_of counter counts
 other_stays counters.A counters.A counts value is = cc
 other_stays counters.A counters.B counts value is = refl
@@ -62,31 +62,21 @@ other_stays counters.D counters.B counts value is = refl
 other_stays counters.D counters.C counts value is = refl
 other_stays counters.D counters.D counts value is = cc
 
-pub own_is : (counter : Counter) (counts : Counts) (value : ℕ) → count_of counter (with_count counter counts value) ≡ value
+pub own_is : (counter : Counter) (counts : Counters) (value : ℕ) → count_of counter (with_count counter counts value) ≡ value
 own_is counters.A counts value = refl
 own_is counters.B counts value = refl
 own_is counters.C counts value = refl
 own_is counters.D counts value = refl
 
-within_of : (counter : Counter) (bounds counts : Counts) → IsWithin bounds counts → count_of counter counts ≤ count_of counter bounds
+within_of : (counter : Counter) (bounds counts : Counters) → IsWithin bounds counts → count_of counter counts ≤ count_of counter bounds
 within_of counters.A bounds counts within = within.0
 within_of counters.B bounds counts within = within.1
 within_of counters.C bounds counts within = within.2
 within_of counters.D bounds counts within = within.3
 
 pub kind_alike : (one : CommandTemplate) (state : RowsState) (job : Job) → kind_of (command_of one state job) ≡ kind_by one
-kind_alike (templates.StartActivity _ _ _) state job = refl
-kind_alike (templates.CancelActivity _) state job = refl
-kind_alike (templates.StartTimer _ _) state job = refl
-kind_alike (templates.CancelTimer _) state job = refl
-kind_alike (templates.StartChild _ _ _) state job = refl
-kind_alike (templates.CancelChild _) state job = refl
-kind_alike (templates.SignalExternal _ _ _) state job = refl
-kind_alike (templates.Ask _ _ _) state job = refl
-kind_alike (templates.Complete _) state job = refl
-kind_alike (templates.Fail _) state job = refl
 kind_alike templates.Cancel state job = refl
-kind_alike (templates.ContinueAsNew _ _) state job = refl
+kind_alike _ state job = refl
 
 -- a row gives as many as its templates do
 count_alike : (kind : CommandKind) (all : List CommandTemplate) (state : RowsState) (job : Job)
@@ -103,7 +93,7 @@ count_both kind (command ∷ rest) second =
     omega (arith, later)
 
 -- a condition that follows from others holds if they do
-pub implied_holds : (one : Condition) (counter : Counter) (bound : ℕ) (counts : Counts)
+pub implied_holds : (one : Condition) (counter : Counter) (bound : ℕ) (counts : Counters)
     → implies one (conditions.Below counter bound) ≡ true → holds one counts ≡ true
     → holds (conditions.Below counter bound) counts ≡ true
 implied_holds (conditions.Below other number) counter bound counts follow hold =
@@ -117,7 +107,7 @@ pub either_holds : (a b : Bool) (P : Type 0) → (a || b) ≡ true → (a ≡ tr
 either_holds true b P holds first second = first refl
 either_holds false b P holds first second = second holds
 
-pub following_holds : (all : List Condition) (counter : Counter) (bound : ℕ) (counts : Counts)
+pub following_holds : (all : List Condition) (counter : Counter) (bound : ℕ) (counts : Counters)
     → follows all (conditions.Below counter bound) ≡ true → all_hold all counts ≡ true → count_of counter counts < bound
 following_holds [] counter bound counts follow hold = cc
 following_holds (one ∷ rest) counter bound counts follow hold =
@@ -147,7 +137,7 @@ or_none true b is = cc
 or_none false b is = (refl, is)
 
 -- an effect that does not set the counter to 0 does not lower it
-one_grows : (one : Effect) (counter : Counter) (bounds : Counts) (state : RowsState) (job : Job) → IsWithin bounds state.counts
+one_grows : (one : RowEffect) (counter : Counter) (bounds : Counters) (state : RowsState) (job : Job) → IsWithin bounds state.counts
     → resets counter (one ∷ []) ≡ false
     → count_of counter state.counts ≤ count_of counter (after_one one bounds state job).counts
 one_grows (effects.Up other) counter bounds state job within kept =
@@ -171,7 +161,7 @@ one_grows (effects.Zero other) counter bounds state job within kept =
     (le_refl (count_of counter state.counts))
 one_grows effects.Keep counter bounds state job within kept = le_refl (count_of counter state.counts)
 
-resets_none : (one : Effect) (rest : List Effect) (counter : Counter) → resets counter (one ∷ rest) ≡ false
+resets_none : (one : RowEffect) (rest : List RowEffect) (counter : Counter) → resets counter (one ∷ rest) ≡ false
     → (resets counter (one ∷ []) ≡ false) × (resets counter rest ≡ false)
 resets_none (effects.Up other) rest counter kept = (refl, kept)
 resets_none (effects.Zero other) rest counter kept =
@@ -180,7 +170,7 @@ resets_none (effects.Zero other) rest counter kept =
     (rw both.0 refl, both.1)
 resets_none effects.Keep rest counter kept = (refl, kept)
 
-all_grow : (all : List Effect) (counter : Counter) (bounds : Counts) (state : RowsState) (job : Job) → IsWithin bounds state.counts
+all_grow : (all : List RowEffect) (counter : Counter) (bounds : Counters) (state : RowsState) (job : Job) → IsWithin bounds state.counts
     → resets counter all ≡ false
     → count_of counter state.counts ≤ count_of counter (after_effects all bounds state job).counts
 unfolding after_effects
@@ -192,7 +182,7 @@ all_grow (one ∷ rest) counter bounds state job within kept =
     omega (arith, first, later)
 
 -- an effect that raises some counter, before effects that do what `later` says
-up_rises : (other counter : Counter) (rest : List Effect) (bounds : Counts) (state : RowsState) (job : Job)
+up_rises : (other counter : Counter) (rest : List RowEffect) (bounds : Counters) (state : RowsState) (job : Job)
     → IsWithin bounds state.counts → count_of counter state.counts < count_of counter bounds → resets counter rest ≡ false
     → raises counter (effects.Up other ∷ rest) ≡ true
     → (count_of counter (after_one (effects.Up other) bounds state job).counts < count_of counter bounds
@@ -229,7 +219,7 @@ up_rises other counter rest bounds state job within below kept up later =
         (later (subst (λ number. number < count_of counter bounds) (sym stays) below) rest_up)
 
 -- effects that raise the counter leave a greater number, if it is below its bound
-all_rise : (all : List Effect) (counter : Counter) (bounds : Counts) (state : RowsState) (job : Job) → IsWithin bounds state.counts
+all_rise : (all : List RowEffect) (counter : Counter) (bounds : Counters) (state : RowsState) (job : Job) → IsWithin bounds state.counts
     → count_of counter state.counts < count_of counter bounds → resets counter all ≡ false → raises counter all ≡ true
     → count_of counter state.counts < count_of counter (after_effects all bounds state job).counts
 unfolding after_effects
@@ -249,7 +239,7 @@ all_rise (effects.Keep ∷ rest) counter bounds state job within below kept up =
     all_rise rest counter bounds (after_one effects.Keep bounds state job) job within below kept up
 
 -- a row gives no more commands of the kind than it raises the counter
-row_within : (kind : CommandKind) (counter : Counter) (bounds : Counts) (row : Row) (state : RowsState) (job : Job)
+row_within : (kind : CommandKind) (counter : Counter) (bounds : Counters) (row : Row) (state : RowsState) (job : Job)
     → IsWithin bounds state.counts → row_counts kind counter (count_of counter bounds) row ≡ true → fits row state job ≡ true
     → count_kind kind (row_gives (Some row) state job) + count_of counter state.counts
     ≤ count_of counter (after_found (Some row) bounds state job).counts
@@ -284,7 +274,7 @@ either true one other P first second = first refl
 either false one other P first second = second
 
 -- nor do rows
-rows_within : (kind : CommandKind) (counter : Counter) (bounds : Counts) (rows : List Row) (state : RowsState) (job : Job)
+rows_within : (kind : CommandKind) (counter : Counter) (bounds : Counters) (rows : List Row) (state : RowsState) (job : Job)
     → IsWithin bounds state.counts → rows_count kind counter (count_of counter bounds) rows ≡ true
     → count_kind kind (row_gives (row_for rows state job) state job) + count_of counter state.counts
     ≤ count_of counter (after_found (row_for rows state job) bounds state job).counts

@@ -5,9 +5,9 @@ use Rattle.std.proofs.lemmas.Slice.Eq.{bytes_eq-Decides}
 use Rattle.wh_workflow.specs.declared.job.Job.{Job}
 use Rattle.wh_workflow.specs.declared.job.Job.TheVariants as jobs
 use Rattle.wh_events.specs.declared.event.Payload.{Payload}
-use Rattle.wh_rows.specs.declared.row.Effect.{Effect}
-use Rattle.wh_rows.specs.declared.row.Effect.TheVariants as effects
-use Rattle.wh_rows.specs.declared.row.Counts.{Counts}
+use Rattle.wh_rows.specs.declared.row.RowEffect.{RowEffect}
+use Rattle.wh_rows.specs.declared.row.RowEffect.TheVariants as effects
+use Rattle.wh_rows.specs.declared.row.Counters.{Counters}
 use Rattle.wh_rows.specs.declared.row.RowsState.{RowsState}
 use Rattle.wh_rows.specs.Naming.{name_by}
 use Rattle.wh_rows.specs.Tables.{Row, Definition}
@@ -55,12 +55,12 @@ no_row_changes_nothing table state job none =
     (ap (λ one. row_gives one now job) found, ap (λ one. after_found one table.bounds now job) found)
 
 -- effects leave the state's name
-one_stays : (one : Effect) (bounds : Counts) (state : RowsState) (job : Job) → (after_one one bounds state job).at ≡ state.at
+one_stays : (one : RowEffect) (bounds : Counters) (state : RowsState) (job : Job) → (after_one one bounds state job).at ≡ state.at
 one_stays (effects.Up counter) bounds state job = refl
 one_stays (effects.Zero counter) bounds state job = refl
 one_stays effects.Keep bounds state job = refl
 
-all_stay : (all : List Effect) (bounds : Counts) (state : RowsState) (job : Job)
+all_stay : (all : List RowEffect) (bounds : Counters) (state : RowsState) (job : Job)
     → (after_effects all bounds state job).at ≡ state.at
 unfolding after_effects
 all_stay [] bounds state job = refl
@@ -77,7 +77,7 @@ eq_itself : (text : List ℕ) → bytes_eq text text ≡ true
 eq_itself text = (bytes_eq-Decides text text).1 refl
 
 -- a row that leads to a state leaves that one, or the run in its own
-row_leads : (row : Row) (bounds : Counts) (state : RowsState) (job : Job)
+row_leads : (row : Row) (bounds : Counters) (state : RowsState) (job : Job)
     → (bytes_eq (after_row row bounds state job).at state.at || bytes_eq row.next (after_row row bounds state job).at) ≡ true
 row_leads row bounds state job =
     by_test (bytes_eq row.next (codes "same")) (after_effects row.effects bounds state job).at
@@ -98,7 +98,7 @@ leads_first false true later is = refl
 leads_first false false later is = cc
 
 -- of rows, the one that counts leads to the state that they leave
-first_leads : (test : Bool) (row : Row) (rest : List Row) (bounds : Counts) (state : RowsState) (job : Job)
+first_leads : (test : Bool) (row : Row) (rest : List Row) (bounds : Counters) (state : RowsState) (job : Job)
     → (bytes_eq (after_found (row_for rest state job) bounds state job).at state.at
     || some_leads rest state job (after_found (row_for rest state job) bounds state job).at) ≡ true
     → (bytes_eq (after_found (if test then Some row else row_for rest state job) bounds state job).at state.at
@@ -109,7 +109,7 @@ first_leads true row rest bounds state job later = leads_first (bytes_eq (after_
     (some_leads rest state job (after_row row bounds state job).at) (row_leads row bounds state job)
 first_leads false row rest bounds state job later = later
 
-rows_lead : (rows : List Row) (bounds : Counts) (state : RowsState) (job : Job)
+rows_lead : (rows : List Row) (bounds : Counters) (state : RowsState) (job : Job)
     → (bytes_eq (after_found (row_for rows state job) bounds state job).at state.at
     || some_leads rows state job (after_found (row_for rows state job) bounds state job).at) ≡ true
 unfolding row_for

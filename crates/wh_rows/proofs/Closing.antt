@@ -16,18 +16,8 @@ use Rattle.wh_rows.specs.Laws.{is_closing, one_closes, after_all, ClosesForGood,
 
 -- a command closes the run exactly if its template does
 pub closes_alike : (one : CommandTemplate) (state : RowsState) (job : Job) → is_closing (command_of one state job) ≡ closes one
-closes_alike (templates.StartActivity _ _ _) state job = refl
-closes_alike (templates.CancelActivity _) state job = refl
-closes_alike (templates.StartTimer _ _) state job = refl
-closes_alike (templates.CancelTimer _) state job = refl
-closes_alike (templates.StartChild _ _ _) state job = refl
-closes_alike (templates.CancelChild _) state job = refl
-closes_alike (templates.SignalExternal _ _ _) state job = refl
-closes_alike (templates.Ask _ _ _) state job = refl
-closes_alike (templates.Complete _) state job = refl
-closes_alike (templates.Fail _) state job = refl
 closes_alike templates.Cancel state job = refl
-closes_alike (templates.ContinueAsNew _ _) state job = refl
+closes_alike _ state job = refl
 
 pub close_alike : (gives : List CommandTemplate) (state : RowsState) (job : Job)
     → one_closes (commands_of gives state job) ≡ some_closes gives

@@ -8,9 +8,9 @@ use Rattle.wh_workflow.specs.declared.job.Job.{Job}
 use Rattle.wh_workflow.specs.declared.job.Job.TheVariants as jobs
 use Rattle.wh_rows.specs.declared.row.Counter.{Counter}
 use Rattle.wh_rows.specs.declared.row.Counter.TheVariants as counters
-use Rattle.wh_rows.specs.declared.row.Effect.{Effect}
-use Rattle.wh_rows.specs.declared.row.Effect.TheVariants as effects
-use Rattle.wh_rows.specs.declared.row.Counts.{Counts}
+use Rattle.wh_rows.specs.declared.row.RowEffect.{RowEffect}
+use Rattle.wh_rows.specs.declared.row.RowEffect.TheVariants as effects
+use Rattle.wh_rows.specs.declared.row.Counters.{Counters}
 use Rattle.wh_rows.specs.declared.row.RowsState.{RowsState}
 use Rattle.wh_rows.specs.Naming.{name_by}
 use Rattle.wh_rows.specs.Tables.{Row, Definition}
@@ -28,28 +28,28 @@ raised_within count bound = by_test (ltb count bound) refl
 zero_least : (n : ℕ) → 0 ≤ n
 zero_least n = omega arith
 
-with_within : (counter : Counter) (bounds counts : Counts) (value : ℕ) → IsWithin bounds counts
+with_within : (counter : Counter) (bounds counts : Counters) (value : ℕ) → IsWithin bounds counts
     → value ≤ count_of counter bounds → IsWithin bounds (with_count counter counts value)
 with_within counters.A bounds counts value within fits = (fits, within.1, within.2, within.3)
 with_within counters.B bounds counts value within fits = (within.0, fits, within.2, within.3)
 with_within counters.C bounds counts value within fits = (within.0, within.1, fits, within.3)
 with_within counters.D bounds counts value within fits = (within.0, within.1, within.2, fits)
 
-pub one_within : (one : Effect) (bounds : Counts) (state : RowsState) (job : Job) → IsWithin bounds state.counts
+pub one_within : (one : RowEffect) (bounds : Counters) (state : RowsState) (job : Job) → IsWithin bounds state.counts
     → IsWithin bounds (after_one one bounds state job).counts
 one_within (effects.Up counter) bounds state job within =
     with_within counter bounds state.counts _ within (raised_within (count_of counter state.counts) (count_of counter bounds))
 one_within (effects.Zero counter) bounds state job within = with_within counter bounds state.counts 0 within (zero_least (count_of counter bounds))
 one_within effects.Keep bounds state job within = within
 
-all_within : (all : List Effect) (bounds : Counts) (state : RowsState) (job : Job) → IsWithin bounds state.counts
+all_within : (all : List RowEffect) (bounds : Counters) (state : RowsState) (job : Job) → IsWithin bounds state.counts
     → IsWithin bounds (after_effects all bounds state job).counts
 unfolding after_effects
 all_within [] bounds state job within = within
 all_within (one ∷ rest) bounds state job within =
     all_within rest bounds (after_one one bounds state job) job (one_within one bounds state job within)
 
-found_within : (row : Option Row) (bounds : Counts) (state : RowsState) (job : Job) → IsWithin bounds state.counts
+found_within : (row : Option Row) (bounds : Counters) (state : RowsState) (job : Job) → IsWithin bounds state.counts
     → IsWithin bounds (after_found row bounds state job).counts
 found_within None bounds state job within = within
 found_within (Some row) bounds state job within = all_within row.effects bounds state job within

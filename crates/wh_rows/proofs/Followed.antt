@@ -9,9 +9,9 @@ use Rattle.wh_rows.specs.declared.row.Condition.{Condition}
 use Rattle.wh_rows.specs.declared.row.Condition.TheVariants as conditions
 use Rattle.wh_rows.specs.declared.row.Counter.{Counter}
 use Rattle.wh_rows.specs.declared.row.Counter.TheVariants as counters
-use Rattle.wh_rows.specs.declared.row.Effect.{Effect}
-use Rattle.wh_rows.specs.declared.row.Effect.TheVariants as effects
-use Rattle.wh_rows.specs.declared.row.Counts.{Counts}
+use Rattle.wh_rows.specs.declared.row.RowEffect.{RowEffect}
+use Rattle.wh_rows.specs.declared.row.RowEffect.TheVariants as effects
+use Rattle.wh_rows.specs.declared.row.Counters.{Counters}
 use Rattle.wh_rows.specs.declared.row.RowsState.{RowsState}
 use Rattle.wh_rows.specs.Naming.{name_by}
 use Rattle.wh_rows.specs.Tables.{CommandTemplate, Row, Definition}
@@ -25,18 +25,8 @@ use Rattle.wh_rows.proofs.Closing.{none_counts, start_leaves}
 use Rattle.wh_rows.proofs.AtMost.{place_same, other_stays, own_is, kind_alike, either_holds, following_holds}
 
 closing_alike : (one : CommandTemplate) (state : RowsState) (job : Job) → closing_of (command_of one state job) ≡ closing_by one
-closing_alike (templates.StartActivity _ _ _) state job = refl
-closing_alike (templates.CancelActivity _) state job = refl
-closing_alike (templates.StartTimer _ _) state job = refl
-closing_alike (templates.CancelTimer _) state job = refl
-closing_alike (templates.StartChild _ _ _) state job = refl
-closing_alike (templates.CancelChild _) state job = refl
-closing_alike (templates.SignalExternal _ _ _) state job = refl
-closing_alike (templates.Ask _ _ _) state job = refl
-closing_alike (templates.Complete _) state job = refl
-closing_alike (templates.Fail _) state job = refl
 closing_alike templates.Cancel state job = refl
-closing_alike (templates.ContinueAsNew _ _) state job = refl
+closing_alike _ state job = refl
 
 -- the counter is above 0
 abbrev flag_of : Counter → RowsState → Bool
@@ -49,7 +39,7 @@ raised_some count bound some = by_test (ltb count bound)
     by_test true = le-leb 1 (suc count) (omega arith)
     by_test false = some
 
-flag_one : (one : Effect) (counter : Counter) (bounds : Counts) (state : RowsState) (job : Job)
+flag_one : (one : RowEffect) (counter : Counter) (bounds : Counters) (state : RowsState) (job : Job)
     → leb 1 (count_of counter bounds) ≡ true
     → flag_of counter (after_one one bounds state job) ≡ flag_by counter one (flag_of counter state)
 flag_one (effects.Up other) counter bounds state job some = by_test (nat_eq (place_of other) (place_of counter)) refl
@@ -76,7 +66,7 @@ flag_one (effects.Zero other) counter bounds state job some = by_test (nat_eq (p
     by_test false is = ap (leb 1) (other_stays other counter state.counts 0 is)
 flag_one effects.Keep counter bounds state job some = refl
 
-flags : (all : List Effect) (counter : Counter) (bounds : Counts) (state : RowsState) (job : Job)
+flags : (all : List RowEffect) (counter : Counter) (bounds : Counters) (state : RowsState) (job : Job)
     → leb 1 (count_of counter bounds) ≡ true
     → flag_of counter (after_effects all bounds state job) ≡ flag_after counter all (flag_of counter state)
 unfolding after_effects
@@ -86,7 +76,7 @@ flags (one ∷ rest) counter bounds state job some =
     ∙ ap (flag_after counter rest) (flag_one one counter bounds state job some)
 
 -- a condition that follows from others holds if they do
-pub least_holds : (one : Condition) (counter : Counter) (least : ℕ) (counts : Counts)
+pub least_holds : (one : Condition) (counter : Counter) (least : ℕ) (counts : Counters)
     → implies one (conditions.AtLeast counter least) ≡ true → holds one counts ≡ true → least ≤ count_of counter counts
 least_holds (conditions.AtLeast other number) counter least counts follow hold =
     let same : other ≡ counter = place_same other counter (first_of (nat_eq (place_of other) (place_of counter)) (leb least number) follow) in
@@ -95,7 +85,7 @@ least_holds (conditions.AtLeast other number) counter least counts follow hold =
     subst (λ one. least ≤ count_of one counts) same (omega (arith, more, above))
 least_holds (conditions.Below other number) counter least counts follow hold = cc
 
-least_follows : (all : List Condition) (counter : Counter) (least : ℕ) (counts : Counts)
+least_follows : (all : List Condition) (counter : Counter) (least : ℕ) (counts : Counters)
     → follows all (conditions.AtLeast counter least) ≡ true → all_hold all counts ≡ true → least ≤ count_of counter counts
 least_follows [] counter least counts follow hold = cc
 least_follows (one ∷ rest) counter least counts follow hold =
@@ -180,7 +170,7 @@ either : (test : Bool) (one other : Option Row) (P : Option Row → Type 0) → 
 either true one other P first second = first refl
 either false one other P first second = second
 
-module _ (first second : CommandKind) (ways : Closing → Bool) (counter : Counter) (bounds : Counts) (job : Job)
+module _ (first second : CommandKind) (ways : Closing → Bool) (counter : Counter) (bounds : Counters) (job : Job)
     (rest : RowsState → List Command) where
   -- what comes after a job keeps the promise, and nothing comes in a run that is closed
   abbrev IsGood : Type 0

@@ -10,7 +10,7 @@ use Rattle.wh_workflow.specs.declared.job.Job.TheVariants as jobs
 use Rattle.wh_rows.specs.declared.row.JobPattern.TheVariants as patterns
 use Rattle.wh_rows.specs.declared.row.Condition.{Condition}
 use Rattle.wh_rows.specs.declared.row.CommandTemplate.TheVariants as templates
-use Rattle.wh_rows.specs.declared.row.Counts.{Counts}
+use Rattle.wh_rows.specs.declared.row.Counters.{Counters}
 use Rattle.wh_rows.specs.declared.row.RowsState.{RowsState}
 use Rattle.wh_rows.specs.Tables.{JobPattern, CommandTemplate, Row, Definition}
 use Rattle.wh_rows.specs.Rows.{named, is_for_job, all_hold, is_for_state, fits}
@@ -32,7 +32,7 @@ and_false : (a b : Bool) → b ≡ false → (a && b) ≡ false
 and_false true b is = is
 and_false false b is = refl
 
-unconditional : (all : List Condition) (counts : Counts) → is_unconditional all ≡ true → all_hold all counts ≡ true
+unconditional : (all : List Condition) (counts : Counters) → is_unconditional all ≡ true → all_hold all counts ≡ true
 unconditional [] counts is = refl
 unconditional (one ∷ rest) counts is = cc
 

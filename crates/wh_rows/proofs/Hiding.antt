@@ -11,7 +11,7 @@ use Rattle.wh_workflow.specs.declared.job.ChildEnd.TheVariants as child_ends
 use Rattle.wh_rows.specs.declared.row.JobPattern.TheVariants as patterns
 use Rattle.wh_rows.specs.declared.row.Condition.{Condition}
 use Rattle.wh_rows.specs.declared.row.Condition.TheVariants as conditions
-use Rattle.wh_rows.specs.declared.row.Counts.{Counts}
+use Rattle.wh_rows.specs.declared.row.Counters.{Counters}
 use Rattle.wh_rows.specs.declared.row.RowsState.{RowsState}
 use Rattle.wh_rows.specs.Tables.{JobPattern, Row}
 use Rattle.wh_rows.specs.Rows.{named, is_signal, is_done, is_not_done, is_fired, is_child_started, is_child_done, is_child_canceled, is_child_not_done, is_version, is_any_version, is_for_job, holds, all_hold, is_for_state, fits, row_for}
@@ -64,11 +64,11 @@ covered (patterns.AnyVersion change) (patterns.Version other version) state job 
 covered _ _ state job is fit = cc
 
 -- a condition that another one implies holds whenever that one does
-implied : (one wanted : Condition) (counts : Counts) → implies one wanted ≡ true → holds one counts ≡ true → holds wanted counts ≡ true
+implied : (one wanted : Condition) (counts : Counters) → implies one wanted ≡ true → holds one counts ≡ true → holds wanted counts ≡ true
 implied one (conditions.Below counter most) counts is hold = implied_holds one counter most counts is hold
 implied one (conditions.AtLeast counter least) counts is hold = le-leb _ _ (least_holds one counter least counts is hold)
 
-followed : (given : List Condition) (wanted : Condition) (counts : Counts) → follows given wanted ≡ true
+followed : (given : List Condition) (wanted : Condition) (counts : Counters) → follows given wanted ≡ true
     → all_hold given counts ≡ true → holds wanted counts ≡ true
 followed [] wanted counts is hold = cc
 followed (one ∷ rest) wanted counts is hold =
@@ -76,7 +76,7 @@ followed (one ∷ rest) wanted counts is hold =
     (λ first. implied one wanted counts first (first_of (holds one counts) (all_hold rest counts) hold))
     (λ later. followed rest wanted counts later (second_of (holds one counts) (all_hold rest counts) hold))
 
-all_followed : (given wanted : List Condition) (counts : Counts) → all_follow given wanted ≡ true
+all_followed : (given wanted : List Condition) (counts : Counters) → all_follow given wanted ≡ true
     → all_hold given counts ≡ true → all_hold wanted counts ≡ true
 all_followed given [] counts is hold = refl
 all_followed given (one ∷ rest) counts is hold =

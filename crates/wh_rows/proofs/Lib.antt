@@ -6,3 +6,10 @@ pub mod Followed
 pub mod Hiding
 pub mod Hearing
 pub mod Telling
+pub mod Places
+pub mod Patterns
+pub mod Cuts
+pub mod Turns
+pub mod Meant
+pub mod Sound
+pub mod Spent

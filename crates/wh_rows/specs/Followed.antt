@@ -6,8 +6,8 @@ use Rattle.wh_workflow.specs.declared.command.Command.TheVariants as commands
 use Rattle.wh_rows.specs.declared.row.CommandTemplate.TheVariants as templates
 use Rattle.wh_rows.specs.declared.row.Condition.TheVariants as conditions
 use Rattle.wh_rows.specs.declared.row.Counter.{Counter}
-use Rattle.wh_rows.specs.declared.row.Effect.{Effect}
-use Rattle.wh_rows.specs.declared.row.Effect.TheVariants as effects
+use Rattle.wh_rows.specs.declared.row.RowEffect.{RowEffect}
+use Rattle.wh_rows.specs.declared.row.RowEffect.TheVariants as effects
 use Rattle.wh_rows.specs.Tables.{CommandTemplate, Row, Definition}
 use Rattle.wh_rows.specs.Rows.{count_of, some_closes, initial}
 use Rattle.wh_rows.specs.Rules.{place_of, follows}
@@ -82,13 +82,13 @@ owed_behind first second ways owed (one ∷ rest) =
     ]
 
 -- whether a counter is above 0 after an effect, by whether it is before
-abbrev pub flag_by : Counter → Effect → Bool → Bool
+abbrev pub flag_by : Counter → RowEffect → Bool → Bool
 flag_by counter (effects.Up other) flag = nat_eq (place_of other) (place_of counter) || flag
 flag_by counter (effects.Zero other) flag = not (nat_eq (place_of other) (place_of counter)) && flag
 flag_by counter effects.Keep flag = flag
 
 -- the same after all effects
-abbrev pub flag_after : Counter → List Effect → Bool → Bool
+abbrev pub flag_after : Counter → List RowEffect → Bool → Bool
 flag_after counter [] flag = flag
 flag_after counter (one ∷ rest) flag = flag_after counter rest (flag_by counter one flag)
 

@@ -5,7 +5,7 @@ use Rattle.wh_workflow.specs.declared.job.Job.TheVariants as jobs
 use Rattle.wh_workflow.specs.declared.command.Command.{Command}
 use Rattle.wh_workflow.specs.declared.command.Command.TheVariants as commands
 use Rattle.wh_rows.specs.declared.row.CommandTemplate.TheVariants as templates
-use Rattle.wh_rows.specs.declared.row.Counts.{Counts}
+use Rattle.wh_rows.specs.declared.row.Counters.{Counters}
 use Rattle.wh_rows.specs.declared.row.RowsState.{RowsState}
 use Rattle.wh_rows.specs.Tables.{CommandTemplate, Row, Definition}
 use Rattle.wh_rows.specs.Rows.{named, fits, row_for, commands_of, after_row, seen_by, gives, after, initial}
@@ -78,7 +78,7 @@ StateChangesByRow table =
     || some_leads table.rows (seen_by table state job) job (after table state job).at)
 
 -- no counter exceeds its bound
-abbrev pub IsWithin : Counts → Counts → Type 0
+abbrev pub IsWithin : Counters → Counters → Type 0
 IsWithin bounds counts = (counts.a ≤ bounds.a) × (counts.b ≤ bounds.b) × (counts.c ≤ bounds.c) × (counts.d ≤ bounds.d)
 
 -- no counter of a run exceeds its bound, whatever jobs come

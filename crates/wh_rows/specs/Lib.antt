@@ -8,3 +8,7 @@ pub mod Laws
 pub mod Properties
 pub mod Followed
 pub mod Queries
+pub mod Courses
+pub mod Watches
+pub mod Promises
+pub mod Deciding

@@ -1,7 +1,7 @@
 -- The name of a run, from its input.
 use Rattle.std.specs.Prelude.{[], ℕ, List, ◌++◌, Option, Some, None}
 use Rattle.wh_events.specs.declared.event.Payload.{Payload}
-use Rattle.wh_payloads.specs.PlainTexts.{payload_text}
+use Rattle.wh_workflow.specs.PlainTexts.{payload_text}
 use Rattle.wh_rows.specs.declared.row.Naming.TheVariants as namings
 use Rattle.wh_rows.specs.Tables.{Naming}
 

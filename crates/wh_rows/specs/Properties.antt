@@ -6,8 +6,8 @@ use Rattle.wh_workflow.specs.declared.command.Command.TheVariants as commands
 use Rattle.wh_rows.specs.declared.row.CommandTemplate.TheVariants as templates
 use Rattle.wh_rows.specs.declared.row.Condition.TheVariants as conditions
 use Rattle.wh_rows.specs.declared.row.Counter.{Counter}
-use Rattle.wh_rows.specs.declared.row.Effect.{Effect}
-use Rattle.wh_rows.specs.declared.row.Effect.TheVariants as effects
+use Rattle.wh_rows.specs.declared.row.RowEffect.{RowEffect}
+use Rattle.wh_rows.specs.declared.row.RowEffect.TheVariants as effects
 use Rattle.wh_rows.specs.declared.row.RowsState.{RowsState}
 use Rattle.wh_rows.specs.Tables.{CommandTemplate, Row, Definition}
 use Rattle.wh_rows.specs.Rows.{count_of, gives, after, initial}
@@ -66,13 +66,13 @@ count_templates kind [] = 0
 count_templates kind (one ∷ rest) = cond (same_kind kind (kind_by one)) 1 0 + count_templates kind rest
 
 -- one of the effects raises the counter
-abbrev pub raises : Counter → List Effect → Bool
+abbrev pub raises : Counter → List RowEffect → Bool
 raises counter [] = false
 raises counter (effects.Up other ∷ rest) = nat_eq (place_of other) (place_of counter) || raises counter rest
 raises counter (_ ∷ rest) = raises counter rest
 
 -- one of the effects sets the counter to 0
-abbrev pub resets : Counter → List Effect → Bool
+abbrev pub resets : Counter → List RowEffect → Bool
 resets counter [] = false
 resets counter (effects.Zero other ∷ rest) = nat_eq (place_of other) (place_of counter) || resets counter rest
 resets counter (_ ∷ rest) = resets counter rest

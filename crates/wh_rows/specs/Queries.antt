@@ -4,11 +4,11 @@ use Rattle.serde_json.specs.Data.{string}
 use Rattle.serde_json.specs.Read.{read}
 use Rattle.serde_json.specs.Written.{compact_text}
 use Rattle.wh_events.specs.declared.event.Payload.{Payload}
-use Rattle.wh_queryable.specs.declared.queryable.QueryResult.{QueryResult}
-use Rattle.wh_queryable.specs.declared.queryable.QueryResult.TheVariants.{Answered}
-use Rattle.wh_queryable.specs.declared.definition.WorkflowDefinition.{WorkflowDefinition}
-use Rattle.wh_queryable.specs.Definitions.{Definitions}
-use Rattle.wh_queryable.specs.Queries.{Queries, json_payload, json_result, unknown_query}
+use Rattle.wh_workflow.specs.declared.queryable.QueryResult.{QueryResult}
+use Rattle.wh_workflow.specs.declared.queryable.QueryResult.TheVariants.{Answered}
+use Rattle.wh_workflow.specs.declared.definition.WorkflowDefinition.{WorkflowDefinition}
+use Rattle.wh_workflow.specs.Definitions.{Definitions}
+use Rattle.wh_workflow.specs.Queries.{Queries, json_payload, json_result, unknown_query}
 use Rattle.wh_rows.specs.declared.row.RowsState.{RowsState}
 
 -- the name of the run's state, as a JSON string

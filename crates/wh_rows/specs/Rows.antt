@@ -17,9 +17,9 @@ use Rattle.wh_rows.specs.declared.row.Condition.TheVariants as conditions
 use Rattle.wh_rows.specs.declared.row.CommandTemplate.TheVariants as templates
 use Rattle.wh_rows.specs.declared.row.Counter.{Counter}
 use Rattle.wh_rows.specs.declared.row.Counter.TheVariants as counters
-use Rattle.wh_rows.specs.declared.row.Effect.{Effect}
-use Rattle.wh_rows.specs.declared.row.Effect.TheVariants as effects
-use Rattle.wh_rows.specs.declared.row.Counts.{Counts}
+use Rattle.wh_rows.specs.declared.row.RowEffect.{RowEffect}
+use Rattle.wh_rows.specs.declared.row.RowEffect.TheVariants as effects
+use Rattle.wh_rows.specs.declared.row.Counters.{Counters}
 use Rattle.wh_rows.specs.declared.row.RowsState.{RowsState}
 use Rattle.wh_rows.specs.Naming.{name_by}
 use Rattle.wh_rows.specs.Tables.{JobPattern, CommandTemplate, Row, Definition}
@@ -106,19 +106,19 @@ is_for_job (patterns.Version wanted number) state job = is_version (named wanted
 is_for_job (patterns.AnyVersion wanted) state job = is_any_version (named wanted state) job
 
 -- the value of a counter
-abbrev pub count_of : Counter → Counts → ℕ
+abbrev pub count_of : Counter → Counters → ℕ
 count_of counters.A counts = counts.a
 count_of counters.B counts = counts.b
 count_of counters.C counts = counts.c
 count_of counters.D counts = counts.d
 
 -- a condition holds
-abbrev pub holds : Condition → Counts → Bool
+abbrev pub holds : Condition → Counters → Bool
 holds (conditions.Below counter bound) counts = ltb (count_of counter counts) bound
 holds (conditions.AtLeast counter bound) counts = leb bound (count_of counter counts)
 
 -- each condition holds
-abbrev pub all_hold : List Condition → Counts → Bool
+abbrev pub all_hold : List Condition → Counters → Bool
 all_hold [] counts = true
 all_hold (condition ∷ rest) counts = holds condition counts && all_hold rest counts
 
@@ -202,14 +202,14 @@ abbrev pub raised : ℕ → ℕ → ℕ
 raised count bound = if ltb count bound then suc count else bound
 
 -- the counts with this value for one counter
-abbrev pub with_count : Counter → Counts → ℕ → Counts
+abbrev pub with_count : Counter → Counters → ℕ → Counters
 with_count counters.A counts value = record counts { a = value }
 with_count counters.B counts value = record counts { b = value }
 with_count counters.C counts value = record counts { c = value }
 with_count counters.D counts value = record counts { d = value }
 
 -- the state after one effect of a row
-abbrev pub after_one : Effect → Counts → RowsState → Job → RowsState
+abbrev pub after_one : RowEffect → Counters → RowsState → Job → RowsState
 after_one (effects.Up counter) bounds state job =
     record state {
       counts = with_count counter state.counts
@@ -219,7 +219,7 @@ after_one (effects.Zero counter) bounds state job = record state { counts = with
 after_one effects.Keep bounds state job = record state { kept = brought job }
 
 -- the state after all effects, one after another
-unfoldable pub after_effects : List Effect → Counts → RowsState → Job → RowsState
+unfoldable pub after_effects : List RowEffect → Counters → RowsState → Job → RowsState
 after_effects [] bounds state job = state
 after_effects (one ∷ rest) bounds state job = after_effects rest bounds (after_one one bounds state job) job
 
@@ -228,7 +228,7 @@ abbrev pub next_state : List ℕ → List ℕ → List ℕ
 next_state next at = if bytes_eq next (codes "same") then at else next
 
 -- the state after a row
-abbrev pub after_row : Row → Counts → RowsState → Job → RowsState
+abbrev pub after_row : Row → Counters → RowsState → Job → RowsState
 after_row row bounds state job =
     let next = after_effects row.effects bounds state job in
     record next {
@@ -237,12 +237,12 @@ after_row row bounds state job =
     }
 
 -- the state after a row, if there is one
-abbrev pub after_found : Option Row → Counts → RowsState → Job → RowsState
+abbrev pub after_found : Option Row → Counters → RowsState → Job → RowsState
 after_found None bounds state job = state
 after_found (Some row) bounds state job = after_row row bounds state job
 
 -- the state after the first of the rows that fits
-abbrev pub after_rows : List Row → Counts → RowsState → Job → RowsState
+abbrev pub after_rows : List Row → Counters → RowsState → Job → RowsState
 after_rows rows bounds state job = after_found (row_for rows state job) bounds state job
 
 -- the state with the input and the name of the run, if the job starts it

@@ -8,9 +8,9 @@ use Rattle.wh_rows.specs.declared.row.Condition.TheVariants as conditions
 use Rattle.wh_rows.specs.declared.row.CommandTemplate.TheVariants as templates
 use Rattle.wh_rows.specs.declared.row.Counter.{Counter}
 use Rattle.wh_rows.specs.declared.row.Counter.TheVariants as counters
-use Rattle.wh_rows.specs.declared.row.Effect.{Effect}
-use Rattle.wh_rows.specs.declared.row.Effect.TheVariants as effects
-use Rattle.wh_rows.specs.declared.row.Counts.{Counts}
+use Rattle.wh_rows.specs.declared.row.RowEffect.{RowEffect}
+use Rattle.wh_rows.specs.declared.row.RowEffect.TheVariants as effects
+use Rattle.wh_rows.specs.declared.row.Counters.{Counters}
 use Rattle.wh_rows.specs.Tables.{JobPattern, CommandTemplate, Row, Definition}
 use Rattle.wh_rows.specs.Rows.{count_of, closes, some_closes}
 
@@ -173,20 +173,20 @@ are_heard name rows (templates.Ask change least greatest ∷ rest) =
 are_heard name rows (one ∷ rest) = are_heard name rows rest
 
 -- no condition compares a counter with a number above its bound
-abbrev pub condition_bounded : Counts → Condition → Bool
+abbrev pub condition_bounded : Counters → Condition → Bool
 condition_bounded bounds (conditions.Below counter number) = leb number (count_of counter bounds)
 condition_bounded bounds (conditions.AtLeast counter number) = leb number (count_of counter bounds)
 
-abbrev pub conditions_bounded : Counts → List Condition → Bool
+abbrev pub conditions_bounded : Counters → List Condition → Bool
 conditions_bounded bounds [] = true
 conditions_bounded bounds (one ∷ rest) = condition_bounded bounds one && conditions_bounded bounds rest
 
 -- no effect raises a counter without a bound
-abbrev pub effect_bounded : Counts → Effect → Bool
+abbrev pub effect_bounded : Counters → RowEffect → Bool
 effect_bounded bounds (effects.Up counter) = leb 1 (count_of counter bounds)
 effect_bounded bounds _ = true
 
-abbrev pub effects_bounded : Counts → List Effect → Bool
+abbrev pub effects_bounded : Counters → List RowEffect → Bool
 effects_bounded bounds [] = true
 effects_bounded bounds (one ∷ rest) = effect_bounded bounds one && effects_bounded bounds rest
 

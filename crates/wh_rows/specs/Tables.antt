@@ -6,7 +6,7 @@ use Rattle.wh_rows.specs.declared.row.JobPattern.TheVariants as patterns
 use Rattle.wh_rows.specs.declared.row.CommandTemplate.{CommandTemplate as CommandTemplateOf}
 use Rattle.wh_rows.specs.declared.row.CommandTemplate.TheVariants as templates
 use Rattle.wh_rows.specs.declared.row.Condition.{Condition}
-use Rattle.wh_rows.specs.declared.row.Effect.{Effect}
+use Rattle.wh_rows.specs.declared.row.RowEffect.{RowEffect}
 use Rattle.wh_rows.specs.declared.row.Naming.{Naming as NamingOf}
 use Rattle.wh_rows.specs.declared.row.Naming.TheVariants as namings
 use Rattle.wh_rows.specs.declared.row.RowOf.{RowOf}
@@ -26,7 +26,7 @@ Naming = NamingOf (List ℕ)
 
 -- a row
 abbrev pub Row : Type 0
-Row = RowOf (List ℕ) (List Condition) (List CommandTemplate) (List Effect)
+Row = RowOf (List ℕ) (List Condition) (List CommandTemplate) (List RowEffect)
 
 -- a table
 abbrev pub Definition : Type 0
@@ -74,7 +74,7 @@ module _ {T : Type 0} where
 
 module _ {T C G E : Type 0} where
   -- a row, with texts as bytes and its lists as lists
-  abbrev pub row_by : (T → List ℕ) → (C → List Condition) → (G → List (CommandTemplateOf T)) → (E → List Effect)
+  abbrev pub row_by : (T → List ℕ) → (C → List Condition) → (G → List (CommandTemplateOf T)) → (E → List RowEffect)
       → RowOf T C G E → Row
   row_by bytes conditions gives effects row = record {
     state = bytes row.state;
@@ -87,14 +87,14 @@ module _ {T C G E : Type 0} where
 
 module _ {T C G E : Type 0} where
   -- rows, with texts as bytes and their lists as lists
-  abbrev pub rows_by : (T → List ℕ) → (C → List Condition) → (G → List (CommandTemplateOf T)) → (E → List Effect)
+  abbrev pub rows_by : (T → List ℕ) → (C → List Condition) → (G → List (CommandTemplateOf T)) → (E → List RowEffect)
       → List (RowOf T C G E) → List Row
   rows_by bytes conditions gives effects rows = map (row_by bytes conditions gives effects) rows
 
 -- a row of a table of the program, in code
 abbrev pub BorrowedRow : Type 0
 BorrowedRow = RowOf (Bor (List ℕ)) (Bor (List Condition))
-    (Bor (List (CommandTemplateOf (Bor (List ℕ))))) (Bor (List Effect))
+    (Bor (List (CommandTemplateOf (Bor (List ℕ))))) (Bor (List RowEffect))
 
 -- a row of it
 abbrev pub row_shown : BorrowedRow → Row
@@ -117,7 +117,7 @@ Named A = record { now : A }
 -- a row of such a static
 abbrev pub NamedRow : Type 0
 NamedRow = RowOf (Named (List ℕ)) (Named (List Condition))
-    (Named (List (CommandTemplateOf (Named (List ℕ))))) (Named (List Effect))
+    (Named (List (CommandTemplateOf (Named (List ℕ))))) (Named (List RowEffect))
 
 -- a row of it
 abbrev pub row_seen : NamedRow → Row

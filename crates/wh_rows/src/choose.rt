@@ -5,14 +5,14 @@ ghost use Rattle.wh_rows.specs.Rows.{named, is_for_job, count_of, holds, all_hol
 
 use crate::parts::{RowList, RowText};
 use crate::row::{
-    CommandTemplate, Condition, Counter, Counts, Effect, JobPattern, RowOf, RowsState,
+    CommandTemplate, Condition, Counter, Counters, JobPattern, RowEffect, RowOf, RowsState,
 };
 use wh_events::Text;
 use wh_workflow::{ActivityEnd, ChildEnd, Job};
 
 /// Returns a text of a row, or the name of the run if the text is `@`.
 #[tactic(auto, unfolding(crate::specs::Rows::named))]
-pub(crate) fn named<'a>(text: &'a str, state: &'a RowsState) -> &'a str
+pub(crate) fn text_or_name<'a>(text: &'a str, state: &'a RowsState) -> &'a str
     ensures { result.now ≡ named text.now state.now }
 {
     if text == "@" { state.name.get() } else { text }
@@ -22,7 +22,7 @@ pub(crate) fn named<'a>(text: &'a str, state: &'a RowsState) -> &'a str
 fn is_text<T: RowText>(text: &Text, wanted: &T, state: &RowsState) -> bool
     ensures { result ≡ bytes_eq text.now (named (T.bytes wanted.now) state.now) }
 {
-    text.get() == named(wanted.text(), state)
+    text.get() == text_or_name(wanted.text(), state)
 }
 
 /// Returns whether the pattern of a row matches the job, in a run with this state.
@@ -95,7 +95,7 @@ pub fn is_for_job<T: RowText>(pattern: &JobPattern<T>, state: &RowsState, job: &
 }
 
 /// Returns the value of a counter.
-pub fn count_of(counter: Counter, counts: Counts) -> u64
+pub fn count_of(counter: Counter, counts: Counters) -> u64
     ensures { result ≡ count_of counter counts }
 {
     match counter {
@@ -107,7 +107,7 @@ pub fn count_of(counter: Counter, counts: Counts) -> u64
 }
 
 /// Returns whether the condition holds for these counters.
-fn holds(condition: Condition, counts: Counts) -> bool
+fn holds(condition: Condition, counts: Counters) -> bool
     ensures { result ≡ holds condition counts }
 {
     match condition {
@@ -117,7 +117,7 @@ fn holds(condition: Condition, counts: Counts) -> bool
 }
 
 /// Returns whether all conditions hold for these counters.
-pub fn all_hold(conditions: &[Condition], counts: Counts) -> bool
+pub fn all_hold(conditions: &[Condition], counts: Counters) -> bool
     ensures { result ≡ all_hold conditions.now counts }
 {
     for condition in conditions {
@@ -136,7 +136,7 @@ fn is_for_state(name: &str, state: &RowsState) -> bool
 }
 
 /// Returns whether the row fits: its state, its job and its conditions.
-fn fits<T: RowText, C: RowList<Condition>, G: RowList<CommandTemplate<T>>, E: RowList<Effect>>(
+fn fits<T: RowText, C: RowList<Condition>, G: RowList<CommandTemplate<T>>, E: RowList<RowEffect>>(
     row: &RowOf<T, C, G, E>,
     state: &RowsState,
     job: &Job,
@@ -155,7 +155,7 @@ pub(crate) fn row_for<
     T: RowText,
     C: RowList<Condition>,
     G: RowList<CommandTemplate<T>>,
-    E: RowList<Effect>,
+    E: RowList<RowEffect>,
 >(rows: &'t [RowOf<T, C, G, E>], state: &RowsState, job: &Job) -> Option<&'t RowOf<T, C, G, E>>
     ensures { option_map (λ row. row_by T.bytes C.list G.list E.list row.now) result
         ≡ row_for (rows_by T.bytes C.list G.list E.list rows.now) state.now job.now }

@@ -3,7 +3,7 @@ ghost use Rattle.std.specs.Prelude.{◌≡◌, IfOk, map};
 ghost use Rattle.wh_rows.specs.Tables.{template_by};
 ghost use Rattle.wh_rows.specs.Rows.{named, brought, payloads, command_of, commands_of, closes, some_closes};
 
-use crate::choose::named;
+use crate::choose::text_or_name;
 use crate::parts::RowText;
 use crate::row::{CommandTemplate, RowsState, Source};
 use std::alloc::Global;
@@ -11,7 +11,7 @@ use wh_events::{Items, OutOfMemory, Payload, Text};
 use wh_workflow::{ActivityEnd, ChildEnd, Command, Job, no_payloads, text_of};
 
 /// Returns the payloads that the job carries.
-pub(crate) fn brought(alloc: Global, job: &Job) -> Result<Items<Payload>, OutOfMemory>
+pub(crate) fn job_payloads(alloc: Global, job: &Job) -> Result<Items<Payload>, OutOfMemory>
     ensures { IfOk result (λ given. given ≡ brought job.now) }
 {
     match job {
@@ -41,7 +41,7 @@ fn payloads(
     match source {
         Source::Nothing => Ok(no_payloads(alloc)),
         Source::Input => state.input.try_copy(),
-        Source::Brought => brought(alloc, job),
+        Source::Brought => job_payloads(alloc, job),
         Source::Kept => state.kept.try_copy(),
     }
 }
@@ -50,7 +50,7 @@ fn payloads(
 fn id_of<T: RowText>(alloc: Global, id: &T, state: &RowsState) -> Result<Text, OutOfMemory>
     ensures { IfOk result (λ text. text ≡ named (T.bytes id.now) state.now) }
 {
-    text_of(alloc, named(id.text(), state))
+    text_of(alloc, text_or_name(id.text(), state))
 }
 
 /// What a command with two texts and payloads is made of.

@@ -6,50 +6,52 @@ ghost use Rattle.wh_rows.specs.Rows.{raised, with_count, after_one, after_effect
 ghost use Rattle.wh_rows.specs.Rows.{after_row, after_rows, rows_give, started};
 
 use crate::choose::{count_of, row_for};
-use crate::command::{brought, commands, some_closes};
+use crate::command::{commands, job_payloads, some_closes};
 use crate::naming::name_by;
 use crate::parts::{RowList, RowText};
-use crate::row::{CommandTemplate, Condition, Counter, Counts, Effect, Naming, RowOf, RowsState};
+use crate::row::{
+    CommandTemplate, Condition, Counter, Counters, Naming, RowEffect, RowOf, RowsState,
+};
 use std::alloc::Global;
 use wh_events::OutOfMemory;
 use wh_workflow::{Command, Job};
 
 /// Returns one more than the count, or the bound if that is less.
-pub fn raised(count: u64, bound: u64) -> u64
+pub fn increment(count: u64, bound: u64) -> u64
     ensures { result ≡ raised count bound }
 {
     if count < bound { count + 1 } else { bound }
 }
 
 /// Returns the counts with this value for one counter.
-pub fn with_count(counter: Counter, counts: Counts, value: u64) -> Counts
+pub fn with_count(counter: Counter, counts: Counters, value: u64) -> Counters
     ensures { result ≡ with_count counter counts value }
 {
     match counter {
-        Counter::A => Counts { a: value, ..counts },
-        Counter::B => Counts { b: value, ..counts },
-        Counter::C => Counts { c: value, ..counts },
-        Counter::D => Counts { d: value, ..counts },
+        Counter::A => Counters { a: value, ..counts },
+        Counter::B => Counters { b: value, ..counts },
+        Counter::C => Counters { c: value, ..counts },
+        Counter::D => Counters { d: value, ..counts },
     }
 }
 
 /// Applies one effect to the state.
 fn apply_one(
     alloc: Global,
-    effect: Effect,
-    bounds: Counts,
+    effect: RowEffect,
+    bounds: Counters,
     state: &mut RowsState,
     job: &Job,
 ) -> Result<(), OutOfMemory>
     ensures { OnOk result (state.new ≡ after_one effect bounds state.old job.now) }
 {
     match effect {
-        Effect::Up(counter) => {
-            let count = raised(count_of(counter, state.counts), count_of(counter, bounds));
+        RowEffect::Up(counter) => {
+            let count = increment(count_of(counter, state.counts), count_of(counter, bounds));
             state.counts = with_count(counter, state.counts, count);
         }
-        Effect::Zero(counter) => state.counts = with_count(counter, state.counts, 0),
-        Effect::Keep => state.kept = brought(alloc, job)?,
+        RowEffect::Zero(counter) => state.counts = with_count(counter, state.counts, 0),
+        RowEffect::Keep => state.kept = job_payloads(alloc, job)?,
     }
     Ok(())
 }
@@ -58,8 +60,8 @@ fn apply_one(
 #[tactic(auto, unfolding(crate::specs::Rows::after_effects))]
 fn apply(
     alloc: Global,
-    effects: &[Effect],
-    bounds: Counts,
+    effects: &[RowEffect],
+    bounds: Counters,
     state: &mut RowsState,
     job: &Job,
 ) -> Result<(), OutOfMemory>
@@ -82,10 +84,10 @@ fn go_on<T: RowText>(state: &mut RowsState, next: &T) -> Result<(), OutOfMemory>
 }
 
 /// Applies the effects of a row, closes the run if a command does so, and sets the next state.
-fn follow<T: RowText, C: RowList<Condition>, G: RowList<CommandTemplate<T>>, E: RowList<Effect>>(
+fn follow<T: RowText, C: RowList<Condition>, G: RowList<CommandTemplate<T>>, E: RowList<RowEffect>>(
     alloc: Global,
     row: &RowOf<T, C, G, E>,
-    bounds: Counts,
+    bounds: Counters,
     state: &mut RowsState,
     job: &Job,
 ) -> Result<(), OutOfMemory>
@@ -104,11 +106,11 @@ pub fn answer<
     T: RowText,
     C: RowList<Condition>,
     G: RowList<CommandTemplate<T>>,
-    E: RowList<Effect>,
+    E: RowList<RowEffect>,
 >(
     alloc: Global,
     rows: &[RowOf<T, C, G, E>],
-    bounds: Counts,
+    bounds: Counters,
     state: &mut RowsState,
     job: &Job,
 ) -> Result<Vec<Command>, OutOfMemory>

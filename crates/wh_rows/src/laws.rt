@@ -1,8 +1,11 @@
-//! What holds for all tables. Each law is the contract of a function without a body.
+//! What holds for all tables and their promises. Each law is the contract of a function without a
+//! body.
 ghost use Rattle.wh_rows.specs.Laws.{FirstRowCounts, NoRowChangesNothing, ClosesForGood, LastCommandCloses};
 ghost use Rattle.wh_rows.specs.Laws.{StateChangesByRow, WithinBounds, HiddenIsNeverTaken, AnswersAreHeard};
+ghost use Rattle.wh_rows.specs.Promises.{PromisesAll};
 ghost use Rattle.wh_rows.specs.Queries.{TellsItsState};
 
+use crate::promising::Promising;
 use crate::table::Table;
 
 /// The first row that fits decides, whatever rows come after it. If none fits, there are no
@@ -44,4 +47,10 @@ pub fn answers_are_heard<T: Table>()
 /// of the run's state, whatever characters that name has.
 pub fn tells_its_state()
     ensures { TellsItsState }
+{}
+
+/// A run of a table keeps each promise of the table, whatever jobs come after its start, in
+/// whatever order and number.
+pub fn keeps_its_promises<T: Promising>()
+    ensures { PromisesAll T.table T.promises }
 {}

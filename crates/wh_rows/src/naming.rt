@@ -7,8 +7,7 @@ use crate::parts::RowText;
 use crate::row::Naming;
 use std::alloc::Global;
 use wh_events::{Items, OutOfMemory, Payload, Text};
-use wh_payloads::payload_text;
-use wh_workflow::text_of;
+use wh_workflow::{payload_text, text_of};
 
 /// Returns the name of a run with this input.
 pub(crate) fn name_by<T: RowText>(

@@ -1,7 +1,7 @@
 //! What the texts and the lists of a row are: borrowed from the program, or owned.
 ghost use Rattle.std.specs.Prelude.{◌≡◌, ℕ, List, IfOk};
 
-use crate::row::{CommandTemplate, Condition, Effect};
+use crate::row::{CommandTemplate, Condition, RowEffect};
 use crate::state_name::StateName;
 use wh_events::{Items, OutOfMemory, Text};
 
@@ -27,7 +27,7 @@ impl RowText for &'static str {
     }
 
     fn state_name(&self) -> Result<StateName, OutOfMemory> {
-        Ok(StateName::fixed(self))
+        Ok(StateName::from_static(self))
     }
 }
 
@@ -39,7 +39,7 @@ impl RowText for Text {
     }
 
     fn state_name(&self) -> Result<StateName, OutOfMemory> {
-        Ok(StateName::owned(self.try_copy()?))
+        Ok(StateName::from_text(self.try_copy()?))
     }
 }
 
@@ -61,10 +61,10 @@ impl RowList<Condition> for &'static [Condition] {
     }
 }
 
-impl RowList<Effect> for &'static [Effect] {
+impl RowList<RowEffect> for &'static [RowEffect] {
     ghost list = { λ list. list.now };
 
-    fn list(&self) -> &[Effect] {
+    fn list(&self) -> &[RowEffect] {
         self
     }
 }

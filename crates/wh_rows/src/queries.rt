@@ -7,7 +7,7 @@ use crate::table::{Rows, Table};
 use serde_json::Value;
 use std::alloc::Global;
 use wh_events::{OutOfMemory, Payload};
-use wh_queryable::{QueryResult, Queryable, WorkflowDefinition, json_result, unknown_query};
+use wh_workflow::{QueryResult, Queryable, WorkflowDefinition, json_result, unknown_query};
 
 /// Returns the name of the run's state, as a JSON string.
 fn state_json(alloc: Global, state: &RowsState) -> Result<String, OutOfMemory>

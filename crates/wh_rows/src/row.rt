@@ -72,7 +72,7 @@ pub enum Condition {
 
 /// What a row changes besides giving commands. A flag is a counter with the bound 1.
 #[derive(Clone, Copy)]
-pub enum Effect {
+pub enum RowEffect {
     /// Raises a counter by one, unless it is at its bound.
     Up(Counter),
     /// Sets the counter to 0.
@@ -135,7 +135,7 @@ pub type Row = RowOf<
     &'static str,
     &'static [Condition],
     &'static [CommandTemplate<&'static str>],
-    &'static [Effect],
+    &'static [RowEffect],
 >;
 
 /// How runs are named: what `@` in a row stands for.
@@ -160,7 +160,7 @@ pub struct DefinitionOf<T, R> {
     pub name: Naming<T>,
     /// The bound of each counter, 0 for one that is not used. No condition compares with a number
     /// above it, so it does not change what a table does.
-    pub bounds: Counts,
+    pub bounds: Counters,
     /// The rows.
     pub rows: R,
 }
@@ -170,7 +170,7 @@ pub type Definition = DefinitionOf<&'static str, &'static [Row]>;
 
 /// A value for each counter.
 #[derive(Clone, Copy)]
-pub struct Counts {
+pub struct Counters {
     /// The value of the first one.
     pub a: u64,
     /// The value of the second one.
@@ -182,7 +182,7 @@ pub struct Counts {
 }
 
 /// The bounds of a table that uses no counter.
-pub const UNCOUNTED: Counts = Counts {
+pub const UNCOUNTED: Counters = Counters {
     a: 0,
     b: 0,
     c: 0,
@@ -203,5 +203,5 @@ pub struct RowsState {
     /// The payloads that a row kept last.
     pub kept: Items<Payload>,
     /// The counters.
-    pub counts: Counts,
+    pub counts: Counters,
 }

@@ -28,7 +28,7 @@ impl Model for StateName {
 
 impl StateName {
     /// Returns the name of a state of a table of the program.
-    pub fn fixed(name: &'static str) -> Self
+    pub fn from_static(name: &'static str) -> Self
         ensures { result ≡ name.now }
     {
         StateName {
@@ -37,7 +37,7 @@ impl StateName {
     }
 
     /// Returns the name of a state of a table that was read.
-    pub fn owned(name: Text) -> Self
+    pub fn from_text(name: Text) -> Self
         ensures { result ≡ name }
     {
         StateName {

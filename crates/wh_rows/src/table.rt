@@ -6,7 +6,7 @@ ghost use Rattle.wh_rows.specs.Rules.{table_fault};
 ghost use Rattle.wh_rows.specs.Lawful.{rows_lawful};
 
 use crate::follow::{answer, take_start};
-use crate::row::{Counts, Definition, RowsState};
+use crate::row::{Counters, Definition, RowsState};
 use crate::state_name::StateName;
 use std::alloc::Global;
 use std::marker::PhantomData;
@@ -46,12 +46,12 @@ impl<T: Table> Workflow for Rows<T> {
 
     fn begin(alloc: Global, _kind: &str) -> Result<RowsState, OutOfMemory> {
         Ok(RowsState {
-            at: StateName::fixed(T::table().first),
+            at: StateName::from_static(T::table().first),
             closed: false,
             name: text_of(alloc, "")?,
             input: no_payloads(alloc),
             kept: no_payloads(alloc),
-            counts: Counts {
+            counts: Counters {
                 a: 0,
                 b: 0,
                 c: 0,

@@ -5,12 +5,12 @@ pub use crate::row::CommandTemplate::{
     SignalExternal, StartActivity, StartChild, StartTimer,
 };
 pub use crate::row::Condition::{AtLeast, Below};
-pub use crate::row::Effect::{Keep, Up, Zero};
 pub use crate::row::JobPattern::{
     AnyVersion, CancelRequested, ChildCanceled, ChildDone, ChildNotDone, ChildStarted, Done, Fired,
     NotDone, Signal, Start, Version,
 };
 pub use crate::row::Naming::{ByPayload, Nameless};
+pub use crate::row::RowEffect::{Keep, Up, Zero};
 pub use crate::row::Source::{Brought, Input, Kept, Nothing};
-pub use crate::row::{Counter, Counts, Definition, DefinitionOf, UNCOUNTED};
+pub use crate::row::{Counter, Counters, Definition, DefinitionOf, UNCOUNTED};
 pub use crate::table::{Rows, Table};

@@ -10,11 +10,11 @@ use Rattle.serde_json.specs.Read.{max_depth, read}
 use Rattle.serde_json.specs.View.{view}
 use Rattle.wh_rpc.specs.declared.bad_line.BadLine.{BadLine}
 use Rattle.wh_rpc.specs.declared.bad_line.BadLine.TheVariants as bad
-use Rattle.wh_rpc.specs.declared.response.Outcome.{Outcome}
-use Rattle.wh_rpc.specs.declared.response.Outcome.TheVariants.{Given, Refused}
+use Rattle.wh_rpc.specs.declared.response.CallResult.{CallResult}
+use Rattle.wh_rpc.specs.declared.response.CallResult.TheVariants.{Given, Refused}
 use Rattle.wh_rpc.specs.declared.response.Response.{Response}
-use Rattle.wh_rpc.specs.declared.response.Line.{Line}
-use Rattle.wh_rpc.specs.declared.response.Line.TheVariants as lines
+use Rattle.wh_rpc.specs.declared.response.RpcMessage.{RpcMessage}
+use Rattle.wh_rpc.specs.declared.response.RpcMessage.TheVariants as lines
 
 -- ---- Lines as data
 
@@ -28,14 +28,14 @@ pub data Meaning : Type 0 where
   answers : ℕ → Answer → Meaning
   shutdown : Meaning
 
-abbrev pub answer_seen : Outcome → Answer
+abbrev pub answer_seen : CallResult → Answer
 answer_seen (Given value) = given (view value)
 answer_seen (Refused code message) = refused code (string_bytes message)
 
 abbrev pub response_seen : Response → Meaning
 response_seen response = answers response.id (answer_seen response.outcome)
 
-abbrev pub line_seen : Line → Meaning
+abbrev pub line_seen : RpcMessage → Meaning
 line_seen (lines.Response response) = response_seen response
 line_seen lines.Shutdown = shutdown
 

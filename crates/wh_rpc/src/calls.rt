@@ -4,7 +4,7 @@ use crate::call_fault::CallFault;
 use crate::open_calls::OpenCalls;
 use crate::output::Output;
 use crate::request::request_text;
-use crate::response::{Outcome, Response};
+use crate::response::{CallResult, Response};
 use crossbeam_channel::Sender;
 use serde_json::Value;
 use std::alloc::Global;
@@ -24,7 +24,7 @@ pub trait Caller {
         rt: &R,
         method: &str,
         params: Value,
-    ) -> Result<(u64, Outcome), CallFault>;
+    ) -> Result<(u64, CallResult), CallFault>;
 
     /// As `call`, but also `Closed` once the bridge has sent notice that it shuts down.
     fn poll<R: Wait>(
@@ -32,7 +32,7 @@ pub trait Caller {
         rt: &R,
         method: &str,
         params: Value,
-    ) -> Result<(u64, Outcome), CallFault>;
+    ) -> Result<(u64, CallResult), CallFault>;
 
     /// Delivers a response to the call of its id. Returns false if that call is not open: it was
     /// never sent, or it has its response, or all calls have ended.
@@ -51,7 +51,7 @@ pub trait Caller {
 pub struct Calls<W> {
     alloc: Global,
     output: Mutex<Output<W>>,
-    open: Mutex<OpenCalls<Sender<Outcome>>>,
+    open: Mutex<OpenCalls<Sender<CallResult>>>,
 }
 
 impl<W: Write + Drop> Calls<W> {
@@ -90,7 +90,7 @@ impl<W: Write + Drop> Calls<W> {
         is_poll: bool,
         method: &str,
         params: Value,
-    ) -> Result<(u64, Outcome), CallFault> {
+    ) -> Result<(u64, CallResult), CallFault> {
         let (sender, receiver) = crossbeam_channel::bounded(self.alloc, 1)?;
         let id = self.open.lock(rt).open(is_poll, sender)?;
         self.send(rt, id, method, params)?;
@@ -111,7 +111,7 @@ impl<W: Write + Drop> Caller for Calls<W> {
         rt: &R,
         method: &str,
         params: Value,
-    ) -> Result<(u64, Outcome), CallFault> {
+    ) -> Result<(u64, CallResult), CallFault> {
         self.exchange(rt, false, method, params)
     }
 
@@ -120,7 +120,7 @@ impl<W: Write + Drop> Caller for Calls<W> {
         rt: &R,
         method: &str,
         params: Value,
-    ) -> Result<(u64, Outcome), CallFault> {
+    ) -> Result<(u64, CallResult), CallFault> {
         self.exchange(rt, true, method, params)
     }
 

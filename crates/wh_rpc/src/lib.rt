@@ -21,4 +21,4 @@ pub use call_fault::CallFault;
 pub use calls::{Caller, Calls};
 pub use reader::read_lines;
 pub use request::request_text;
-pub use response::{Line, MAX_LINE, Outcome, Response, read_line};
+pub use response::{CallResult, MAX_LINE, Response, RpcMessage, read_line};

@@ -6,7 +6,7 @@ ghost use Rattle.wh_rpc.specs.Private.Losses.{EndsAtLoss, IsFollowed, may_be_res
 use crate::bad_line::BadLine;
 use crate::calls::Caller;
 use crate::input::next_line;
-use crate::response::{Line, read_line};
+use crate::response::{RpcMessage, read_line};
 use std::alloc::Global;
 use std::fmt::Display;
 use std::io::BufRead;
@@ -50,13 +50,13 @@ fn may_be_response(fault: BadLine, bytes: &[u8]) -> bool
 }
 
 /// Delivers a response, or lets polls fail after a shutdown.
-fn act_on<R: Wait, C: Caller>(rt: &R, calls: &C, line: Line) -> Result<(), Unused> {
+fn act_on<R: Wait, C: Caller>(rt: &R, calls: &C, line: RpcMessage) -> Result<(), Unused> {
     match line {
-        Line::Shutdown => {
+        RpcMessage::Shutdown => {
             calls.shut_down(rt);
             Ok(())
         }
-        Line::Response(response) => {
+        RpcMessage::Response(response) => {
             let id = response.id;
             if calls.deliver(rt, response) {
                 Ok(())
@@ -68,7 +68,7 @@ fn act_on<R: Wait, C: Caller>(rt: &R, calls: &C, line: Line) -> Result<(), Unuse
 }
 
 /// Returns whether a malformed line is skipped or ends the connection.
-fn unusable(fault: BadLine, bytes: &[u8]) -> Unused
+fn unusable_line(fault: BadLine, bytes: &[u8]) -> Unused
     ensures { result ≡ (if may_be_response fault bytes.now then Unused.Lost fault else Unused.Unread fault) }
 {
     if may_be_response(fault, bytes) {
@@ -89,20 +89,20 @@ fn take_line<R: Wait, C: Caller>(
 {
     match read_line(alloc, bytes) {
         Ok(line) => act_on(rt, calls, line),
-        Err(fault) => Err(unusable(fault, bytes)),
+        Err(fault) => Err(unusable_line(fault, bytes)),
     }
 }
 
 /// How many lines were read, and how many of them were not used.
 #[derive(Drop)]
-struct Counts {
+struct LineCounts {
     lines: u64,
     unused: u64,
 }
 
 /// Counts a line that is not used, and reports why on standard error, if fewer than `MOST_REPORTED`
 /// were reported before.
-fn report<R: Eprint, N: Display>(rt: &R, name: &N, counts: &mut Counts, why: &Unused) {
+fn report<R: Eprint, N: Display>(rt: &R, name: &N, counts: &mut LineCounts, why: &Unused) {
     if counts.unused < MOST_REPORTED {
         let number = counts.lines;
         let _ = eprintln!(rt; "{name}: line {number} of the bridge {why}");
@@ -111,7 +111,7 @@ fn report<R: Eprint, N: Display>(rt: &R, name: &N, counts: &mut Counts, why: &Un
 }
 
 /// Reports how many more lines were not used than were reported one by one.
-fn report_rest<R: Eprint, N: Display>(rt: &R, name: &N, counts: &Counts) {
+fn report_rest<R: Eprint, N: Display>(rt: &R, name: &N, counts: &LineCounts) {
     if MOST_REPORTED < counts.unused {
         let more = counts.unused - MOST_REPORTED;
         let _ = eprintln!(rt; "{name}: {more} more lines of the bridge were passed over");
@@ -126,7 +126,7 @@ fn take_next<R: Wait + Eprint, N: Display, B: BufRead, C: Caller>(
     name: &N,
     input: &mut B,
     calls: &C,
-    counts: &mut Counts,
+    counts: &mut LineCounts,
 ) -> bool
     ensures { result ≡ true → IfSome (B.remaining input.old) (λ bytes. IsFollowed bytes (B.remaining input.new)) }
 {
@@ -162,7 +162,7 @@ pub fn read_lines<R: Wait + Eprint, N: Display, B: BufRead + Drop, C: Caller>(
     mut input: B,
     calls: &C,
 ) {
-    let mut counts = Counts {
+    let mut counts = LineCounts {
         lines: 0,
         unused: 0,
     };

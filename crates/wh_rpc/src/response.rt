@@ -24,7 +24,7 @@ const MAX_DEPTH: usize = 127;
 
 /// How the bridge answers a call.
 #[derive(Debug, Drop)]
-pub enum Outcome {
+pub enum CallResult {
     /// The call succeeded, with this result.
     Given(Value),
     /// The call failed.
@@ -42,12 +42,12 @@ pub struct Response {
     /// The id of the call.
     pub id: u64,
     /// How the bridge answers it.
-    pub outcome: Outcome,
+    pub outcome: CallResult,
 }
 
 /// What a line of the bridge says.
 #[derive(Debug, Drop)]
-pub enum Line {
+pub enum RpcMessage {
     /// The response to a call.
     Response(Response),
     /// The bridge shuts down.
@@ -56,7 +56,7 @@ pub enum Line {
 
 /// Reads the member `error`.
 #[tactic(auto, unfolding(crate::specs::Responses::refusal_of))]
-fn refusal_in(alloc: Global, error: &Value) -> Result<Outcome, BadLine>
+fn refusal_in(alloc: Global, error: &Value) -> Result<CallResult, BadLine>
     ensures { Gives answer_seen result (refusal_of (view error.now)) }
 {
     let Some(code) = error.get("code").and_then(Value::as_i64) else {
@@ -66,7 +66,7 @@ fn refusal_in(alloc: Global, error: &Value) -> Result<Outcome, BadLine>
         return Err(BadLine::BadError);
     };
     let message = String::from_str(alloc, message)?;
-    Ok(Outcome::Refused { code, message })
+    Ok(CallResult::Refused { code, message })
 }
 
 /// Returns the member `result`, if there is one.
@@ -81,14 +81,14 @@ fn result_in(value: Value) -> Option<Value>
 
 /// Reads the outcome of a response: its error, or else its result.
 #[tactic(auto, unfolding(crate::specs::Responses::outcome_of))]
-fn outcome_in(alloc: Global, value: Value) -> Result<Outcome, BadLine>
+fn outcome_in(alloc: Global, value: Value) -> Result<CallResult, BadLine>
     ensures { Gives answer_seen result (outcome_of (view value)) }
 {
     if let Some(error) = value.get("error") {
         return refusal_in(alloc, error);
     }
     match result_in(value) {
-        Some(result) => Ok(Outcome::Given(result)),
+        Some(result) => Ok(CallResult::Given(result)),
         None => Err(BadLine::NoOutcome),
     }
 }
@@ -124,18 +124,18 @@ fn response_in(alloc: Global, value: Value) -> Result<Response, BadLine>
 }
 
 /// Reads a notice, by the name of its method.
-fn notice_in(name: Option<&str>) -> Result<Line, BadLine>
+fn notice_in(name: Option<&str>) -> Result<RpcMessage, BadLine>
     ensures { Gives line_seen result (notice_by (option_map (λ name. name.now) name.entry)) }
 {
     match name {
-        Some(name) if name == "shutdown" => Ok(Line::Shutdown),
+        Some(name) if name == "shutdown" => Ok(RpcMessage::Shutdown),
         _ => Err(BadLine::NotResponse),
     }
 }
 
 /// Reads the value of a line.
 #[tactic(auto, unfolding(crate::specs::Responses::said_by))]
-fn line_in(alloc: Global, value: Value) -> Result<Line, BadLine>
+fn line_in(alloc: Global, value: Value) -> Result<RpcMessage, BadLine>
     ensures { Gives line_seen result (said_by (view value)) }
 {
     if value.as_object().is_none() {
@@ -145,7 +145,7 @@ fn line_in(alloc: Global, value: Value) -> Result<Line, BadLine>
         return notice_in(method.as_str());
     }
     let response = response_in(alloc, value)?;
-    Ok(Line::Response(response))
+    Ok(RpcMessage::Response(response))
 }
 
 /// Returns bytes as text.
@@ -195,7 +195,7 @@ fn value_in(alloc: Global, text: &str) -> Result<Value, BadLine>
 /// Reads a line, which is given without its end. Returns what the line says, or the first reason
 /// why it is malformed. `OutOfMemory` can replace both, except the first two reasons.
 #[tactic(auto, unfolding(crate::specs::Responses::meaning))]
-pub fn read_line(alloc: Global, bytes: &[u8]) -> Result<Line, BadLine>
+pub fn read_line(alloc: Global, bytes: &[u8]) -> Result<RpcMessage, BadLine>
     ensures { Gives line_seen result (meaning bytes.now) }
 {
     if MAX_LINE < bytes.len() {

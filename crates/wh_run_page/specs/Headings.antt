@@ -2,8 +2,8 @@
 use Rattle.std.specs.Prelude.{ℕ, ◌-◌, nat_lt, Bool, true, false, if◌then◌else◌, Option, Some, None, List, [], ◌∷◌, ◌++◌, codes, decimal, count_by}
 use Rattle.wh_events.specs.declared.kind.EventKind.{EventKind}
 use Rattle.wh_events.specs.Cuts.{is_task_started_kind}
-use Rattle.wh_view.specs.declared.parts.Word.{Word}
-use Rattle.wh_view.specs.declared.parts.Word.TheVariants as words
+use Rattle.wh_view.specs.declared.parts.EventUse.{EventUse}
+use Rattle.wh_view.specs.declared.parts.EventUse.TheVariants as words
 use Rattle.wh_view.specs.declared.view.View.{View}
 use Rattle.wh_view.specs.declared.view.ViewedEvent.{ViewedEvent}
 use Rattle.wh_view.specs.Lookups.{opening_of, event_id}
@@ -18,11 +18,11 @@ starting_kind None = false
 starting_kind (Some kind) = is_task_started_kind kind
 
 -- an event of the word becomes an activation job, or records a command
-abbrev pub is_told : Word → Bool
+abbrev pub is_told : EventUse → Bool
 is_told words.Told = true
 is_told _ = false
 
-abbrev pub is_given : Word → Bool
+abbrev pub is_given : EventUse → Bool
 is_given words.Gives = true
 is_given _ = false
 

@@ -5,8 +5,8 @@ use Rattle.wh_events.specs.declared.kind.EventKind.{EventKind}
 use Rattle.wh_events.specs.declared.kind.EventKind.TheVariants as events
 use Rattle.wh_timeline.specs.declared.page.Kind.{Kind}
 use Rattle.wh_timeline.specs.declared.page.Kind.TheVariants as kinds
-use Rattle.wh_timeline.specs.declared.page.Outcome.{Outcome}
-use Rattle.wh_timeline.specs.declared.page.Outcome.TheVariants as outcomes
+use Rattle.wh_timeline.specs.declared.page.ThingOutcome.{ThingOutcome}
+use Rattle.wh_timeline.specs.declared.page.ThingOutcome.TheVariants as outcomes
 use Rattle.wh_timeline.specs.declared.page.Lane.{Lane}
 use Rattle.wh_view.specs.declared.view.View.{View}
 use Rattle.wh_view.specs.declared.view.ViewedEvent.{ViewedEvent}
@@ -28,7 +28,7 @@ lane_kind things.Signal = kinds.Signal
 lane_kind things.Marker = kinds.Marker
 
 -- the outcome of a thing that ended with an event of the kind
-abbrev pub outcome_by : EventKind → Outcome
+abbrev pub outcome_by : EventKind → ThingOutcome
 outcome_by (events.ActivityTaskFailed _) = outcomes.Failed
 outcome_by (events.ActivityTaskTimedOut _) = outcomes.Failed
 outcome_by (events.ActivityTaskCanceled _) = outcomes.Canceled
@@ -63,12 +63,12 @@ outcome_word (events.MarkerRecorded _ _) = codes "recorded"
 outcome_word _ = codes "completed"
 
 -- the outcome of a thing, by the kind of the event that ended it, if it is known
-abbrev pub outcome_of_kind : Option EventKind → Outcome
+abbrev pub outcome_of_kind : Option EventKind → ThingOutcome
 outcome_of_kind None = outcomes.Done
 outcome_of_kind (Some kind) = outcome_by kind
 
 -- the outcome of a thing, by the event that ended it, if there is one
-abbrev pub outcome_at : Option ViewedEvent → Outcome
+abbrev pub outcome_at : Option ViewedEvent → ThingOutcome
 outcome_at None = outcomes.Open
 outcome_at (Some event) = outcome_of_kind event.read.kind
 

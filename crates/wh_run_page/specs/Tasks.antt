@@ -1,12 +1,12 @@
 -- The workflow tasks of a run, as those of its page.
 use Rattle.std.specs.Prelude.{ℕ, ◌+◌, ◌==◌, ◌&&◌, Bool, true, false, not, if◌then◌else◌, Option, Some, None, List, [], ◌∷◌, ◌++◌, map, take, drop, slice_get}
 use Rattle.std.specs.List.{flat_map, list_any}
-use Rattle.wh_timeline.specs.declared.page.Line.{Line}
+use Rattle.wh_timeline.specs.declared.page.TaskLine.{TaskLine}
 use Rattle.wh_timeline.specs.declared.page.Task.{Task}
 use Rattle.wh_timeline.specs.declared.page.Side.{Side}
 use Rattle.wh_timeline.specs.declared.page.Side.TheVariants as sides
-use Rattle.wh_view.specs.declared.parts.Word.{Word}
-use Rattle.wh_view.specs.declared.parts.Word.TheVariants as words
+use Rattle.wh_view.specs.declared.parts.EventUse.{EventUse}
+use Rattle.wh_view.specs.declared.parts.EventUse.TheVariants as words
 use Rattle.wh_view.specs.declared.view.View.{View}
 use Rattle.wh_view.specs.declared.view.ViewedEvent.{ViewedEvent}
 use Rattle.wh_view.specs.Parts.{word_of}
@@ -23,7 +23,7 @@ is_at None place = false
 is_at (Some other) place = other == place
 
 -- the side of the line of an event
-abbrev pub side_of : Word → Side
+abbrev pub side_of : EventUse → Side
 side_of words.Told = sides.Told
 side_of words.Gives = sides.Gives
 side_of words.Completes = sides.Recorded
@@ -34,7 +34,7 @@ abbrev pub side_at : Option ℕ → ViewedEvent → Side
 side_at fault event = if is_at fault event.place then sides.Fault else side_of (word_of event)
 
 -- the line of an event
-abbrev pub line_of : View → Option ℕ → ViewedEvent → Line
+abbrev pub line_of : View → Option ℕ → ViewedEvent → TaskLine
 line_of view fault event =
     record { side = side_at fault event; event = Some (number_of event); text = event_words view event }
 
@@ -43,11 +43,11 @@ abbrev pub has_line : Option ℕ → ViewedEvent → Bool
 has_line fault event = if is_at fault event.place then true else not (is_quiet event)
 
 -- the line of an event, if it has one
-abbrev pub line_if : View → Option ℕ → ViewedEvent → List Line
+abbrev pub line_if : View → Option ℕ → ViewedEvent → List TaskLine
 line_if view fault event = if has_line fault event then line_of view fault event ∷ [] else []
 
 -- the lines of events
-abbrev pub lines_of : View → Option ℕ → List ViewedEvent → List Line
+abbrev pub lines_of : View → Option ℕ → List ViewedEvent → List TaskLine
 lines_of view fault events = flat_map (line_if view fault) events
 
 -- the event, or else the first event of the list

@@ -3,10 +3,10 @@
 ghost use Rattle.std.specs.Prelude.{◌≡◌, ◌++◌, ◌∷◌, [], codes, decimal, get_or, IfOk, OnOk};
 ghost use Rattle.wh_run_page.specs.Facts as facts;
 
-use crate::words::copied;
+use crate::words::copy_text;
 use std::alloc::Global;
 use wh_events::{OutOfMemory, Text};
-use wh_html::{Span, Stamp};
+use wh_html::{Stamp, TimeSpan};
 use wh_timeline::Fact;
 use wh_view::View;
 use wh_view_report::{completed_count, mark_of, workflow_type};
@@ -20,7 +20,7 @@ fn push_fact(
 ) -> Result<(), OutOfMemory>
     ensures { OnOk result (list.new.items ≡ list.old.items ++ (facts.fact name.now value ∷ [])) }
 {
-    let name = copied(alloc, name)?;
+    let name = copy_text(alloc, name)?;
     list.push(Fact { name, value })?;
     Ok(())
 }
@@ -46,7 +46,7 @@ fn last_time(times: &[u64]) -> u64
 }
 
 /// Returns when a run started, as text.
-fn started(alloc: Global, times: &[u64]) -> Result<Text, OutOfMemory>
+fn start_text(alloc: Global, times: &[u64]) -> Result<Text, OutOfMemory>
     ensures { IfOk result (λ text. text ≡ facts.started times.now) }
 {
     let first = Stamp(first_time(times));
@@ -54,10 +54,10 @@ fn started(alloc: Global, times: &[u64]) -> Result<Text, OutOfMemory>
 }
 
 /// Returns how long a run lasted, as text.
-fn lasted(alloc: Global, times: &[u64]) -> Result<Text, OutOfMemory>
+fn duration_text(alloc: Global, times: &[u64]) -> Result<Text, OutOfMemory>
     ensures { IfOk result (λ text. text ≡ facts.lasted times.now) }
 {
-    let span = Span(last_time(times).saturating_sub(first_time(times)));
+    let span = TimeSpan(last_time(times).saturating_sub(first_time(times)));
     Ok(Text::new(format!(in alloc; "{span}")?))
 }
 
@@ -79,10 +79,10 @@ pub(crate) fn facts_of(alloc: Global, view: &View, times: &[u64]) -> Result<Vec<
         alloc,
         &mut all,
         "Workflow type",
-        copied(alloc, workflow_type(events))?,
+        copy_text(alloc, workflow_type(events))?,
     )?;
-    push_fact(alloc, &mut all, "Started", started(alloc, times)?)?;
-    push_fact(alloc, &mut all, "Lasted", lasted(alloc, times)?)?;
+    push_fact(alloc, &mut all, "Started", start_text(alloc, times)?)?;
+    push_fact(alloc, &mut all, "Lasted", duration_text(alloc, times)?)?;
     push_fact(alloc, &mut all, "Events", count(alloc, events.len())?)?;
     push_fact(
         alloc,

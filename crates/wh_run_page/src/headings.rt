@@ -7,7 +7,7 @@ use crate::words::AfterLabel;
 use std::alloc::Global;
 use std::fmt;
 use wh_events::{EventKind, OutOfMemory, Text};
-use wh_view::{View, ViewedEvent, Word};
+use wh_view::{EventUse, View, ViewedEvent};
 
 /// Which events of a task are looked for.
 #[derive(Clone, Copy)]
@@ -26,8 +26,8 @@ fn is_sought(sought: Sought, event: &ViewedEvent) -> bool
 {
     match sought {
         Sought::Start => matches!(&event.read.kind, Some(EventKind::WorkflowTaskStarted)),
-        Sought::Told => matches!(event.word(), Word::Told),
-        Sought::Given => matches!(event.word(), Word::Gives),
+        Sought::Told => matches!(event.word(), EventUse::Told),
+        Sought::Given => matches!(event.word(), EventUse::Gives),
     }
 }
 
@@ -56,9 +56,9 @@ fn count_like(sought: Sought, events: &[ViewedEvent]) -> usize
 
 /// How many more there are than one, if there are more.
 #[derive(Clone, Copy)]
-struct More(usize);
+struct MoreCount(usize);
 
-impl fmt::Display for More {
+impl fmt::Display for MoreCount {
     ghost output = { λ m. Some (headings.more_text m.0) };
 
     fn fmt<W: fmt::Write>(&self, f: &mut fmt::Formatter<W>) -> fmt::Result {
@@ -90,7 +90,7 @@ impl fmt::Display for First<'_> {
                 let label = self.label;
                 let name = event.read.name.get();
                 let id = AfterLabel(" ", self.view.opening_of(event).id());
-                let more = More(self.count);
+                let more = MoreCount(self.count);
                 write!(f, "{label}{name}{id}{more}")
             }
             None => Ok(()),

@@ -4,10 +4,10 @@ ghost use Rattle.std.specs.Prelude.{◌≡◌, IfOk, option_map};
 ghost use Rattle.wh_run_page.specs.Lanes as lanes;
 
 use crate::moments::{event_at, moment_if, moment_or};
-use crate::words::{AfterLabel, copied};
+use crate::words::{AfterLabel, copy_text};
 use std::alloc::Global;
 use wh_events::{EventKind, OutOfMemory, Text};
-use wh_timeline::{Kind, Lane, Outcome};
+use wh_timeline::{Kind, Lane, ThingOutcome};
 use wh_view::{ThingKind, View, ViewedEvent, ViewedThing};
 
 /// Returns the kind of a lane.
@@ -25,7 +25,7 @@ fn lane_kind(kind: ThingKind) -> Kind
 }
 
 /// Returns the outcome of a thing that ended with an event of the kind.
-fn outcome_by(kind: &EventKind) -> Outcome
+fn outcome_by(kind: &EventKind) -> ThingOutcome
     ensures { result ≡ lanes.outcome_by kind.now }
 {
     match kind {
@@ -36,11 +36,11 @@ fn outcome_by(kind: &EventKind) -> Outcome
         | EventKind::ChildWorkflowExecutionTerminated { .. }
         | EventKind::StartChildWorkflowExecutionFailed { .. }
         | EventKind::RequestCancelExternalWorkflowExecutionFailed { .. }
-        | EventKind::SignalExternalWorkflowExecutionFailed { .. } => Outcome::Failed,
+        | EventKind::SignalExternalWorkflowExecutionFailed { .. } => ThingOutcome::Failed,
         EventKind::ActivityTaskCanceled { .. }
         | EventKind::TimerCanceled { .. }
-        | EventKind::ChildWorkflowExecutionCanceled { .. } => Outcome::Canceled,
-        _ => Outcome::Done,
+        | EventKind::ChildWorkflowExecutionCanceled { .. } => ThingOutcome::Canceled,
+        _ => ThingOutcome::Done,
     }
 }
 
@@ -70,15 +70,15 @@ fn outcome_word(kind: &EventKind) -> &'static str
 }
 
 /// Returns the outcome of a thing, by the event that ended it, if there is one.
-fn outcome_at(ending: Option<&ViewedEvent>) -> Outcome
+fn outcome_at(ending: Option<&ViewedEvent>) -> ThingOutcome
     ensures { result ≡ lanes.outcome_at (option_map (λ e. e.now) ending.entry) }
 {
     let Some(event) = ending else {
-        return Outcome::Open;
+        return ThingOutcome::Open;
     };
     match &event.read.kind {
         Some(kind) => outcome_by(kind),
-        None => Outcome::Done,
+        None => ThingOutcome::Done,
     }
 }
 
@@ -97,7 +97,7 @@ fn outcome_words(alloc: Global, ending: Option<&ViewedEvent>) -> Result<Text, Ou
     ensures { IfOk result (λ words. words ≡ lanes.outcome_words (option_map (λ e. e.now) ending.entry)) }
 {
     let Some(event) = ending else {
-        return copied(alloc, "open");
+        return copy_text(alloc, "open");
     };
     let word = word_of(event);
     let failure = AfterLabel(": ", event.failure.get());
@@ -131,7 +131,7 @@ fn text_if(alloc: Global, text: &str) -> Result<Option<Text>, OutOfMemory>
     if text.is_empty() {
         return Ok(None);
     }
-    Ok(Some(copied(alloc, text)?))
+    Ok(Some(copy_text(alloc, text)?))
 }
 
 /// Returns the attempt that an event names, if it names one.
@@ -176,7 +176,7 @@ fn lane_of(
     let opening = event_at(events, Some(thing.opened));
     let starting = event_at(events, thing.started);
     let ending = event_at(events, thing.ended);
-    let name = copied(alloc, id_at(opening))?;
+    let name = copy_text(alloc, id_at(opening))?;
     let type_name = text_if(alloc, type_at(opening))?;
     let words = outcome_words(alloc, ending)?;
     Ok(Lane {

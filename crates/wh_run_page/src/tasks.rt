@@ -9,8 +9,8 @@ use crate::moments::{moment_or, number_of};
 use crate::words::event_words;
 use std::alloc::Global;
 use wh_events::{Items, OutOfMemory};
-use wh_timeline::{Line, Side, Task, first_items};
-use wh_view::{View, ViewedEvent, Word};
+use wh_timeline::{Side, Task, TaskLine, first_items};
+use wh_view::{EventUse, View, ViewedEvent};
 use wh_view_report::is_quiet;
 
 /// Adjacent events that belong to one task.
@@ -35,13 +35,13 @@ fn is_at(fault: Option<u64>, place: u64) -> bool
 }
 
 /// Returns the side of the line of an event.
-fn side_of(word: Word) -> Side
+fn side_of(word: EventUse) -> Side
     ensures { result ≡ tasks.side_of word }
 {
     match word {
-        Word::Told => Side::Told,
-        Word::Gives => Side::Gives,
-        Word::Completes | Word::Other => Side::Recorded,
+        EventUse::Told => Side::Told,
+        EventUse::Gives => Side::Gives,
+        EventUse::Completes | EventUse::Other => Side::Recorded,
     }
 }
 
@@ -62,11 +62,11 @@ fn line_of(
     view: &View,
     fault: Option<u64>,
     event: &ViewedEvent,
-) -> Result<Line, OutOfMemory>
+) -> Result<TaskLine, OutOfMemory>
     ensures { IfOk result (λ line. line ≡ tasks.line_of view.now fault event.now) }
 {
     let text = event_words(alloc, view, event)?;
-    Ok(Line {
+    Ok(TaskLine {
         side: side_at(fault, event),
         event: Some(number_of(event)),
         text,
@@ -86,7 +86,7 @@ fn push_line(
     view: &View,
     fault: Option<u64>,
     event: &ViewedEvent,
-    lines: &mut Vec<Line>,
+    lines: &mut Vec<TaskLine>,
 ) -> Result<(), OutOfMemory>
     ensures { OnOk result (lines.new.items ≡ lines.old.items ++ tasks.line_if view.now fault event.now) }
 {
@@ -103,7 +103,7 @@ fn lines_of(
     view: &View,
     fault: Option<u64>,
     events: &[ViewedEvent],
-) -> Result<Vec<Line>, OutOfMemory>
+) -> Result<Vec<TaskLine>, OutOfMemory>
     ensures { IfOk result (λ lines. lines.items ≡ tasks.lines_of view.now fault events.now) }
 {
     let mut lines = Vec::new(alloc);

@@ -73,7 +73,7 @@ pub(crate) fn event_words(
 }
 
 /// Copies a text.
-pub(crate) fn copied(alloc: Global, text: &str) -> Result<Text, OutOfMemory>
+pub(crate) fn copy_text(alloc: Global, text: &str) -> Result<Text, OutOfMemory>
     ensures { IfOk result (λ copy. copy ≡ text.now) }
 {
     Ok(Text::new(String::from_str(alloc, text)?))

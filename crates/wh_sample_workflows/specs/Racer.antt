@@ -9,8 +9,8 @@ use Rattle.wh_workflow.specs.declared.job.Job.TheVariants.{Start, Activity, Time
 use Rattle.wh_workflow.specs.Law.{Program, IsAnswer, IsLawful}
 use Rattle.wh_sample_workflows.specs.Endings.{result_or_failure}
 use Rattle.wh_workflow.specs.Answering.{none_is_answer, one_is_answer, two_are_answer, either_is_answer}
-use Rattle.wh_queryable.specs.Definitions.{Definitions}
-use Rattle.wh_queryable.specs.Queries.{Queries, json_result, unknown_query}
+use Rattle.wh_workflow.specs.Definitions.{Definitions}
+use Rattle.wh_workflow.specs.Queries.{Queries, json_result, unknown_query}
 use Rattle.wh_sample_workflows.specs.declared.racer.Phase.{Phase}
 use Rattle.wh_sample_workflows.specs.declared.racer.Phase.TheVariants.{Racing, Late, Done}
 

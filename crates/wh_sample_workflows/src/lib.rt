@@ -1,5 +1,6 @@
 //! Small workflows, each a table of the commands that it gives to jobs. The workflow type is the
-//! name of the sample.
+//! name of the sample. And the workflows that wfhost and its parts know: the samples, and those whose
+//! table comes with the run.
 #![tactic(auto)]
 
 mod asker;
@@ -11,6 +12,7 @@ mod flood;
 mod greet;
 mod nap;
 mod racer;
+mod registered;
 mod relay;
 mod stateless;
 
@@ -22,10 +24,10 @@ pub use flood::{Flood, FloodState};
 pub use greet::{Greet, GreetState};
 pub use nap::Nap;
 pub use racer::{Phase, Racer};
+pub use registered::{Registered, types};
 pub use relay::{Relay, RelayState};
 pub use stateless::NoState;
-use wh_queryable::NoQueries;
-use wh_workflow::Pair;
+use wh_workflow::{NoQueries, Pair};
 
 /// The samples that the program registers. Flood and Asker are not among them, since they only
 /// exceed limits. Only Racer answers a query.

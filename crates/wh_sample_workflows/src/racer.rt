@@ -1,14 +1,13 @@
 //! Racer: runs an activity against a timer.
 ghost use Rattle.std.specs.Prelude.{◌≡◌, [], ◌∷◌, IfOk};
-ghost use Rattle.wh_sample_workflows.specs.Racer.{racer, racer_after, racer_gives, racer_lawful, race, lateness, ending};
-ghost use Rattle.wh_sample_workflows.specs.Racer.{phase_text};
+ghost use Rattle.wh_sample_workflows.specs.Racer.{racer, racer_after, racer_gives, racer_lawful, race, lateness, ending, phase_text};
 
 use crate::endings::result_or_failure;
 use std::alloc::Global;
 use wh_events::{OutOfMemory, Payload};
-use wh_queryable::{QueryResult, Queryable, WorkflowDefinition, json_result, unknown_query};
 use wh_workflow::{
-    ActivityEnd, Command, Job, Meter, Workflow, give_all, no_payloads, text_of, texts_of,
+    ActivityEnd, Command, Job, Meter, QueryResult, Queryable, Workflow, WorkflowDefinition,
+    give_all, json_result, no_payloads, text_of, texts_of, unknown_query,
 };
 
 /// Runs an activity against a timer.

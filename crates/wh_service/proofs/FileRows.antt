@@ -6,7 +6,7 @@ use Rattle.std.proofs.Math.Nat.{mod-lt}
 use Rattle.wh_recorded.specs.Rounds.{Stage}
 use Rattle.wh_service.specs.declared.assignment.AssignedFile.{AssignedFile}
 use Rattle.wh_recorded.specs.declared.failed_task.FailedTask.{FailedTask}
-use Rattle.wh_service.specs.declared.rows.Row.{Row}
+use Rattle.wh_service.specs.declared.rows.FileRow.{FileRow}
 use Rattle.wh_service.specs.declared.failures.FileFailure.{FileFailure}
 use Rattle.wh_service.specs.Assignment.{no_source, source_at}
 use Rattle.wh_service.specs.Rows.{row_from, rows_from, failures_in, failures_of, failures_from}
@@ -22,7 +22,7 @@ more_rows sources before (f ∷ fs) file =
     ap (λ l. row_from (source_at sources before) f ∷ l) (more_rows sources (before + 1) fs file ∙ ap (λ n. rows_from sources (before + 1) fs ++ (row_from (source_at sources n) file ∷ [])) one)
 
 -- the source of the worker whose turn it is
-own_source : {W : Type 0} (source : W → Stage) (workers : List W) (files : List AssignedFile) (rows : List Row) (worker : W)
+own_source : {W : Type 0} (source : W → Stage) (workers : List W) (files : List AssignedFile) (rows : List FileRow) (worker : W)
     → rows ≡ rows_from (map source workers) 0 files → 0 < length workers → worker ≡ get_or workers (length rows % length workers) worker
     → source_at (map source workers) (0 + length files) ≡ source worker
 own_source source workers files rows worker is some at =
@@ -33,7 +33,7 @@ own_source source workers files rows worker is some at =
     ap (λ n. get_or all n no_source) place ∙ get_or-map source workers (length rows % length workers) worker no_source (mod-lt (length rows) some) ∙ ap source (sym at)
 
 -- the row of one more file, by the source of the worker whose turn it is
-pub rows_push : {W : Type 0} (source : W → Stage) (workers : List W) (files : List AssignedFile) (file : AssignedFile) (rows : List Row) (row : Row) (worker : W)
+pub rows_push : {W : Type 0} (source : W → Stage) (workers : List W) (files : List AssignedFile) (file : AssignedFile) (rows : List FileRow) (row : FileRow) (worker : W)
     → rows ≡ rows_from (map source workers) 0 files → 0 < length workers → worker ≡ get_or workers (length rows % length workers) worker → row ≡ row_from (source worker) file
     → rows ++ (row ∷ []) ≡ rows_from (map source workers) 0 (files ++ (file ∷ []))
 rows_push source workers files file rows row worker is some at given =
@@ -58,7 +58,7 @@ more_failed sources before (f ∷ fs) file =
     ∙ sym (append_assoc own (failures_from sources (before + 1) fs) (failures_of (source_at sources (before + length (f ∷ fs))) file))
 
 -- the failed tasks of one more file, by the source of the worker whose turn it is
-pub failures_push : {W : Type 0} (source : W → Stage) (workers : List W) (files : List AssignedFile) (file : AssignedFile) (rows : List Row) (failures more : List FileFailure) (worker : W)
+pub failures_push : {W : Type 0} (source : W → Stage) (workers : List W) (files : List AssignedFile) (file : AssignedFile) (rows : List FileRow) (failures more : List FileFailure) (worker : W)
     → rows ≡ rows_from (map source workers) 0 files → failures ≡ failures_from (map source workers) 0 files → 0 < length workers → worker ≡ get_or workers (length rows % length workers) worker
     → more ≡ failures ++ failures_of (source worker) file
     → more ≡ failures_from (map source workers) 0 (files ++ (file ∷ []))

@@ -14,14 +14,13 @@ use Rattle.wh_json.specs.declared.fault.ReadFault.TheVariants as faults
 use Rattle.wh_service.specs.declared.readings.ReadFile.{ReadFile}
 use Rattle.wh_service.specs.declared.readings.ReadFiles.{ReadFiles}
 use Rattle.wh_file_faults.specs.Faults.{File}
-use Rattle.wh_service.specs.Readings.{reading_of}
-use Rattle.wh_file_faults.specs.declared.file_faults.FileFault.{FileFault}
-use Rattle.wh_file_faults.specs.Faults.{AreFaultsOf, IsReportedOf, reported_of}
-use Rattle.wh_file_faults.specs.Made.{AreMadeOf, IsMadeOf}
-use Rattle.wh_files.specs.declared.InputFault.{InputFault}
-use Rattle.wh_files.specs.declared.InputFault.TheVariants.{OutOfMemory as InputMemory}
+use Rattle.wh_service.specs.Readings.{reading_of, faulty_of, is_unread, plain, reading, readings_of, AddsRead, AreRead, HasRead, IsReading, Reading}
+use Rattle.wh_service.specs.declared.file_faults.FileFault.{FileFault}
+use Rattle.wh_service.specs.Faults.{AreFaultsOf, IsReportedOf, reported_of}
+use Rattle.wh_service.specs.Made.{AreMadeOf, IsMadeOf}
+use Rattle.wh_console.specs.declared.files.InputFault.{InputFault}
+use Rattle.wh_console.specs.declared.files.InputFault.TheVariants.{OutOfMemory as InputMemory}
 use Rattle.wh_workflow.specs.Law.{Program}
-use Rattle.wh_service.specs.Readings.{faulty_of, is_unread, plain, reading, readings_of, AddsRead, AreRead, HasRead, IsReading, Reading}
 
 -- where room was found, what was read is the history or its fault
 pub plain_is : (outcome : Result (Vec Event Global) ReadFault) (read : Result (List Event) ReadFault) → outcome ≢ Err faults.OutOfMemory → Gives (λ events. events.items) outcome read → plain outcome ≡ read

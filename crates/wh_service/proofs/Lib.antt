@@ -4,3 +4,5 @@ pub mod FilesRead
 pub mod FileRows
 pub mod Turns
 pub mod Workers
+pub mod Faults
+pub mod Made

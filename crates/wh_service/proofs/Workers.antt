@@ -7,14 +7,14 @@ use Rattle.std.proofs.lemmas.List.{length-map}
 use Rattle.wh_host.specs.declared.config.Config.{Config}
 use Rattle.wh_host.specs.declared.reply.Totals.{Totals}
 use Rattle.wh_recorded.specs.Rounds.{Stage, opening_stage, has_last_record}
-use Rattle.wh_service.specs.declared.rows.Row.{Row}
+use Rattle.wh_service.specs.declared.rows.FileRow.{FileRow}
 use Rattle.wh_service.specs.declared.failures.FileFailure.{FileFailure}
-use Rattle.wh_service.specs.declared.service.Served.{Served}
+use Rattle.wh_service.specs.declared.service.PendingReport.{PendingReport}
 use Rattle.wh_service.specs.declared.service.ServiceEnd.{ServiceEnd}
 use Rattle.wh_service.specs.Services.{IsEndOf, IsServed, IsServiceEnd}
 use Rattle.wh_workflow.specs.Law.{Program}
-use Rattle.wh_file_faults.specs.Faults.{AreFaultsOf}
-use Rattle.wh_file_faults.specs.declared.file_faults.FileFault.{FileFault}
+use Rattle.wh_service.specs.Faults.{AreFaultsOf}
+use Rattle.wh_service.specs.declared.file_faults.FileFault.{FileFault}
 use Rattle.wh_service.specs.Services.{IsServiceEndOver}
 use Rattle.wh_file_faults.proofs.Collected.{as_they_are}
 use Rattle.wh_file_faults.specs.Faults.{File}
@@ -44,7 +44,7 @@ setups_are count readings sources setups many assigned opens turns =
     }
 
 -- what was gathered of what a host left of setups over what its workers were assigned is a service
-pub service_is : (hosts : HostsBy) (config : Config) (readings : List Reading) (setups : Vec ServiceSetup Global) (end : ServiceHost) (rows : List Row) (totals : Totals) (faultless : Bool) (failures : List FileFailure) (uncompared : Bool)
+pub service_is : (hosts : HostsBy) (config : Config) (readings : List Reading) (setups : Vec ServiceSetup Global) (end : ServiceHost) (rows : List FileRow) (totals : Totals) (faultless : Bool) (failures : List FileFailure) (uncompared : Bool)
     → AreSetups config.seats readings setups.items
     → hosts config setups end
     → rows ≡ rows_from (map (λ worker. worker.source) end.workers.items) 0 (map assigned_as readings)
@@ -66,7 +66,7 @@ service_is hosts config readings setups end rows totals faultless failures uncom
 }
 
 -- a service by one relation is one by each weaker relation
-service_by : (hosts other : HostsBy) (config : Config) (readings : List Reading) (rows : List Row) (totals : Totals) (faultless : Bool) (failures : List FileFailure) (uncompared : Bool)
+service_by : (hosts other : HostsBy) (config : Config) (readings : List Reading) (rows : List FileRow) (totals : Totals) (faultless : Bool) (failures : List FileFailure) (uncompared : Bool)
     → ((setups : Vec ServiceSetup Global) (left : ServiceHost) → hosts config setups left → other config setups left)
     → IsServiceWith hosts config readings rows totals faultless failures uncompared
     → IsServiceWith other config readings rows totals faultless failures uncompared
@@ -114,7 +114,7 @@ faults_of_files program hosts config files old new end h =
     subst (λ l. AreFaultsOf program l end.file_faults.items) (as_they_are files h.files h.from) h.faults
 
 -- the end of what was served of files is the end of a service of them
-pub end_of_served : (hosts : HostsBy) (config : Config) (readings : List Reading) (faults : List FileFault) (served : Served) (old new : Option (List ℕ)) (end : ServiceEnd)
+pub end_of_served : (hosts : HostsBy) (config : Config) (readings : List Reading) (faults : List FileFault) (served : PendingReport) (old new : Option (List ℕ)) (end : ServiceEnd)
     → IsServed hosts config readings faults served → IsEndOf served old new end
     → IsServiceEnd hosts config readings old new end
 end_of_served hosts config readings faults served old new end is ended = record {

@@ -5,3 +5,5 @@ pub mod Rows
 pub mod Services
 pub mod Texts
 pub mod Repeats
+pub mod Faults
+pub mod Made

@@ -3,11 +3,12 @@ use Rattle.std.specs.Prelude.{◌≡◌, ◌++◌, ℕ, List, map, Bool, Result,
 use Rattle.std.specs.List.{AllZip}
 use Rattle.std.specs.declared.alloc.Global.{Global}
 use Rattle.wh_events.specs.declared.event.Event.{Event}
-use Rattle.wh_file_faults.specs.Faults.{AreFaultsOf, File}
-use Rattle.wh_file_faults.specs.declared.file_faults.FileFault.{FileFault}
+use Rattle.wh_file_faults.specs.Faults.{File}
 use Rattle.wh_json.specs.declared.fault.ReadFault.{ReadFault}
 use Rattle.wh_json.specs.Events.{history}
 use Rattle.wh_workflow.specs.Law.{Program}
+use Rattle.wh_service.specs.Faults.{AreFaultsOf}
+use Rattle.wh_service.specs.declared.file_faults.FileFault.{FileFault}
 use Rattle.wh_service.specs.declared.readings.ReadFile.{ReadFile}
 use Rattle.wh_service.specs.declared.readings.ReadFiles.{ReadFiles}
 

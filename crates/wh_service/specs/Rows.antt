@@ -7,7 +7,7 @@ use Rattle.wh_recorded.specs.declared.failed_task.FailedTask.{FailedTask}
 use Rattle.wh_service.specs.declared.assignment.AssignedFile.{AssignedFile}
 use Rattle.wh_service.specs.declared.failures.FileFailure.{FileFailure}
 use Rattle.wh_service.specs.declared.rows.FileCounts.{FileCounts}
-use Rattle.wh_service.specs.declared.rows.Row.{Row}
+use Rattle.wh_service.specs.declared.rows.FileRow.{FileRow}
 use Rattle.wh_service.specs.Assignment.{source_at}
 
 -- how many tasks of a file its source gave, and how they ended: none if it has none of its name
@@ -20,11 +20,11 @@ outcome_from source name None = Ok (counts_from (tally_of source name))
 outcome_from source name (Some fault) = Err fault
 
 -- the row of a file: why it cannot be read, or its counts in the source of its worker
-abbrev pub row_from : Stage → AssignedFile → Row
+abbrev pub row_from : Stage → AssignedFile → FileRow
 row_from source file = record { name = file.name; outcome = outcome_from source file.name file.fault }
 
 -- the rows of files in their order, where so many stand before them
-abbrev pub rows_from : List Stage → ℕ → List AssignedFile → List Row
+abbrev pub rows_from : List Stage → ℕ → List AssignedFile → List FileRow
 rows_from sources before [] = []
 rows_from sources before (file ∷ rest) = row_from (source_at sources before) file ∷ rows_from sources (before + 1) rest
 

@@ -3,10 +3,9 @@ use Rattle.std.specs.Prelude.{◌≡◌, ℕ, ◌+◌, ◌<◌, ◌&&◌, List, 
 use Rattle.std.specs.List.{AllZip, list_all, list_any}
 use Rattle.std.specs.Io.KnownBytes.{Appends}
 use Rattle.std.specs.declared.alloc.Global.{Global}
-use Rattle.wh_file_faults.specs.Faults.{AreFaultsOf, File}
+use Rattle.wh_file_faults.specs.Faults.{File}
 use Rattle.wh_file_faults.specs.Made.{IsFaultIn}
-use Rattle.wh_file_faults.specs.declared.file_faults.FileFault.{FileFault}
-use Rattle.wh_files.specs.declared.InputFault.{InputFault}
+use Rattle.wh_console.specs.declared.files.InputFault.{InputFault}
 use Rattle.wh_file_faults.specs.declared.command_fault.CommandFault.TheVariants.{OutOfMemory}
 use Rattle.wh_json.specs.declared.fault.ReadFault.{ReadFault}
 use Rattle.wh_host.specs.declared.config.Config.{Config}
@@ -24,13 +23,15 @@ use Rattle.wh_recorded.specs.Calls.{ComesFrom}
 use Rattle.wh_workflow.specs.Law.{Program}
 use Rattle.wh_service.specs.declared.assignment.AssignedFile.{AssignedFile}
 use Rattle.wh_service.specs.declared.failures.FileFailure.{FileFailure}
+use Rattle.wh_service.specs.declared.file_faults.FileFault.{FileFault}
 use Rattle.wh_service.specs.declared.outcomes.Service.{Service}
 use Rattle.wh_service.specs.declared.rows.FileCounts.{FileCounts}
-use Rattle.wh_service.specs.declared.rows.Row.{Row}
-use Rattle.wh_service.specs.declared.service.Served.{Served}
+use Rattle.wh_service.specs.declared.rows.FileRow.{FileRow}
+use Rattle.wh_service.specs.declared.service.PendingReport.{PendingReport}
 use Rattle.wh_service.specs.declared.service.ServiceEnd.{ServiceEnd}
 use Rattle.wh_service.specs.declared.service.ServiceFault.{ServiceFault}
 use Rattle.wh_service.specs.declared.service.ServiceFault.TheVariants.{Input, Report}
+use Rattle.wh_service.specs.Faults.{AreFaultsOf}
 use Rattle.wh_service.specs.Assignment.{assigned_as, assigned_to, no_source}
 use Rattle.wh_service.specs.Readings.{Reading, reading_of}
 use Rattle.wh_service.specs.Rows.{failures_from, rows_from}
@@ -86,7 +87,7 @@ pub record AreSetups (count : ℕ) (readings : List Reading) (setups : List Serv
 
 -- what is gathered of the files and of what is left of the host: a row for each file, the totals, and whether none of
 -- the workers has a fault
-pub record IsGathered (end : ServiceHost) (assigned : List AssignedFile) (rows : List Row) (totals : Totals)
+pub record IsGathered (end : ServiceHost) (assigned : List AssignedFile) (rows : List FileRow) (totals : Totals)
     (faultless : Bool) : Type 0 where
   pub found : rows ≡ rows_from (map (λ worker. worker.source) end.workers.items) 0 assigned
   pub sums : totals ≡ end.totals
@@ -94,7 +95,7 @@ pub record IsGathered (end : ServiceHost) (assigned : List AssignedFile) (rows :
 
 -- a host of these sizes was run on setups over the files, by what was read of these, and the rest is gathered of what
 -- is left of it
-pub record IsService (hosts : HostsBy) (config : Config) (readings : List Reading) (rows : List Row) (totals : Totals)
+pub record IsService (hosts : HostsBy) (config : Config) (readings : List Reading) (rows : List FileRow) (totals : Totals)
     (faultless : Bool) : Type 0 where
   pub setups : Vec ServiceSetup Global
   pub end : ServiceHost
@@ -104,7 +105,7 @@ pub record IsService (hosts : HostsBy) (config : Config) (readings : List Readin
 
 -- a service with what is reported of it beside its report: by the sources that the workers leave, the failed tasks of
 -- the files, and whether the last task of a history has a record, which it was not compared with
-pub record IsServiceWith (hosts : HostsBy) (config : Config) (readings : List Reading) (rows : List Row)
+pub record IsServiceWith (hosts : HostsBy) (config : Config) (readings : List Reading) (rows : List FileRow)
     (totals : Totals) (faultless : Bool) (failures : List FileFailure) (uncompared : Bool) : Type 0 where
   pub service : IsService hosts config readings rows totals faultless
   pub failed : failures
@@ -122,21 +123,21 @@ is_good_outcome (Ok counts) = eqb counts.failed 0
 is_good_outcome (Err fault) = false
 
 -- each file was read, and none of its tasks failed
-abbrev pub are_good : List Row → Bool
+abbrev pub are_good : List FileRow → Bool
 are_good rows = list_all (λ row. is_good_outcome row.outcome) rows
 
 -- 0 if no worker has a fault, no task failed and each file was read, and else 1
-abbrev pub status_of : Bool → List Row → Totals → ℕ
+abbrev pub status_of : Bool → List FileRow → Totals → ℕ
 status_of faultless rows totals = if faultless && (eqb totals.failed 0 && are_good rows) then 0 else 1
 
 -- what was served of files is a service of them, and beside it are these faults, which are reported of the files
 pub record IsServed (hosts : HostsBy) (config : Config) (readings : List Reading) (faults : List FileFault)
-    (served : Served) : Type 0 where
+    (served : PendingReport) : Type 0 where
   pub service : IsServiceOf hosts config readings served.service
   pub reported : served.file_faults.items ≡ faults
 
 -- the report of what was served has been written, and the end says the status and what else is reported
-pub record IsEndOf (served : Served) (old new : Option (List ℕ)) (end : ServiceEnd) : Type 0 where
+pub record IsEndOf (served : PendingReport) (old new : Option (List ℕ)) (end : ServiceEnd) : Type 0 where
   pub written : Appends old new (service_text served.service.rows.items served.service.totals)
   pub ends : end.status ≡ status_of served.service.faultless served.service.rows.items served.service.totals
   pub failures : end.failures.items ≡ served.service.failures.items
@@ -147,7 +148,7 @@ pub record IsEndOf (served : Served) (old new : Option (List ℕ)) (end : Servic
 -- the end of a service: its report has been written, and the end says the status and what else is reported
 pub record IsServiceEnd (hosts : HostsBy) (config : Config) (readings : List Reading) (old new : Option (List ℕ))
     (end : ServiceEnd) : Type 0 where
-  pub rows : List Row
+  pub rows : List FileRow
   pub totals : Totals
   pub service : IsServiceWith hosts config readings rows totals end.faultless end.failures.items end.uncompared
   pub written : Appends old new (service_text rows totals)

@@ -10,10 +10,10 @@ use Rattle.wh_workflow.specs.declared.fault.WorkflowFault.{WorkflowFault}
 use Rattle.wh_workflow.specs.declared.fault.WorkflowFault.TheVariants.{UnknownWorkflow}
 use Rattle.wh_tester.specs.Faults.{replay_fault_text, workflow_fault_name}
 use Rattle.wh_tester.specs.Report.{shown, line_text}
-use Rattle.wh_verdict.specs.declared.line.Verdict.TheVariants.{Unreadable}
+use Rattle.wh_tester.specs.declared.line.Verdict.TheVariants.{Unreadable}
 use Rattle.wh_service.specs.declared.failures.FileFailure.{FileFailure}
 use Rattle.wh_service.specs.declared.rows.FileCounts.{FileCounts}
-use Rattle.wh_service.specs.declared.rows.Row.{Row}
+use Rattle.wh_service.specs.declared.rows.FileRow.{FileRow}
 
 -- `<tasks> tasks, <completed> completed, <failed> failed`
 abbrev pub counts_text : FileCounts → List ℕ
@@ -26,11 +26,11 @@ outcome_text name (Ok counts) = shown name ++ (codes ": " ++ counts_text counts)
 outcome_text name (Err fault) = line_text (record { name = name; verdict = Unreadable fault })
 
 -- the line of a file: its counts, or the line of an unreadable file as in the report of replay
-abbrev pub row_text : Row → List ℕ
+abbrev pub row_text : FileRow → List ℕ
 row_text row = outcome_text row.name row.outcome
 
 -- a line for each file, then the totals
-abbrev pub service_text : List Row → Totals → List ℕ
+abbrev pub service_text : List FileRow → Totals → List ℕ
 service_text rows totals = flat_map row_text rows ++ (totals_text totals ++ codes "\n")
 
 -- a fault of commands is that of another task: not that there is no code for the workflow type, and not this task's own

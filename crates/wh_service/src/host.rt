@@ -9,7 +9,7 @@ use std::sync::Wait;
 use std::thread::Threads;
 use wh_events::OutOfMemory;
 use wh_host::{Config, OpenFault};
-use wh_poll::{HostEnd, NoActivities, NoObserver, OpenGate, WorkerSetup, run_host};
+use wh_poll::{HostEnd, NoActivities, NoObserver, WorkerSetup, run_host};
 use wh_recorded::ScriptSource;
 use wh_workflow::Workflow;
 
@@ -31,7 +31,7 @@ pub fn host_of<W: Workflow + Send, R: Threads + Wait + Sync>(
     requires seats { config.seats ≡ vec_len setups }
     ensures { IfOk result (IsHosted W.program config setups) }
 {
-    match run_host::<W, _, _, _, _, _>(rt, alloc, config, setups, &OpenGate) {
+    match run_host::<W, _, _, _, _>(rt, alloc, config, setups) {
         Ok(end) => Ok(end),
         Err(OpenFault::OutOfMemory) => Err(OutOfMemory),
         Err(OpenFault::BadConfig) => unreachable!(),

@@ -4,17 +4,20 @@
 
 mod assignment;
 mod failures;
+mod file_faults;
 mod host;
 pub mod laws;
 mod outcomes;
+mod parallel;
 mod readings;
 mod rows;
 mod service;
 
 pub use failures::{FileFailure, RepeatedFailure, is_repeat, repeats};
+pub use file_faults::FileFault;
 pub use host::{ServiceHost, ServiceSetup, host_of};
 pub use readings::{ReadFiles, read_inputs};
-pub use rows::{FileCounts, Row};
+pub use rows::{FileCounts, FileRow};
 pub use service::{
-    Served, ServiceEnd, ServiceFault, report_served, serve_files, serve_inputs, serve_read,
+    PendingReport, ServiceEnd, ServiceFault, report_served, serve_files, serve_inputs, serve_read,
 };

@@ -7,7 +7,7 @@ ghost use Rattle.wh_service.specs.Rows.{counts_from, row_from, rows_from, failur
 
 use crate::assignment::AssignedFile;
 use crate::failures::FileFailure;
-use crate::rows::{FileCounts, Row};
+use crate::rows::{FileCounts, FileRow};
 use std::alloc::Global;
 use wh_events::OutOfMemory;
 use wh_host::Totals;
@@ -17,7 +17,7 @@ use wh_recorded::ScriptSource;
 /// What the workers did.
 #[derive(Drop)]
 pub(crate) struct Service {
-    pub(crate) rows: Vec<Row>,
+    pub(crate) rows: Vec<FileRow>,
     pub(crate) totals: Totals,
     /// Whether no worker has a fault.
     pub(crate) faultless: bool,
@@ -46,7 +46,7 @@ fn counts_in(source: &ScriptSource, name: &str) -> FileCounts
 }
 
 /// What came of a file, as the source of its worker has it.
-fn row_of(file: AssignedFile, source: &ScriptSource) -> Row
+fn row_of(file: AssignedFile, source: &ScriptSource) -> FileRow
     ensures { result ≡ row_from source.now file }
 {
     let AssignedFile { name, fault } = file;
@@ -54,7 +54,7 @@ fn row_of(file: AssignedFile, source: &ScriptSource) -> Row
         Some(fault) => Err(fault),
         None => Ok(counts_in(source, name.get())),
     };
-    Row { name, outcome }
+    FileRow { name, outcome }
 }
 
 /// What a worker of a service leaves.
@@ -72,7 +72,7 @@ fn add_failures(
     let None = &file.fault else {
         return Ok(());
     };
-    for task in source.failed(file.name.get())? {
+    for task in source.failed_tasks(file.name.get())? {
         failures.push(FileFailure {
             name: file.name.try_copy()?,
             task,
@@ -86,7 +86,7 @@ fn rows_of(
     alloc: Global,
     files: Vec<AssignedFile>,
     workers: &[ServiceWorker],
-) -> Result<(Vec<Row>, Vec<FileFailure>), OutOfMemory>
+) -> Result<(Vec<FileRow>, Vec<FileFailure>), OutOfMemory>
     requires { 0 < length workers.now }
     ensures rows { IfOk result (λ both.
         both.0.items ≡ rows_from (map (λ worker. worker.source) workers.now) 0 files.items) }

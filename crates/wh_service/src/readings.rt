@@ -1,20 +1,20 @@
 //! Files are read, each in the thread that parses it.
 
-ghost use Rattle.std.specs.Prelude.{◌≡◌, ◌++◌, ◌⊎◌, [], Err, IfErr, IfOk, MatchResult, Ok, OnOk};
-ghost use Rattle.std.specs.Prelude.{count_by, length, not, string_bytes};
-ghost use Rattle.wh_file_faults.specs.Faults.{HasHistory, IsCauseIn, IsFaultOf, IsReportedOf};
-ghost use Rattle.wh_file_faults.specs.Made.{IsFaultIn, IsMadeOf};
-ghost use Rattle.wh_files.specs.declared.InputFault.TheVariants.{OutOfMemory as InputMemory};
+ghost use Rattle.std.specs.Prelude.{◌≡◌, ◌++◌, ◌⊎◌, [], Err, IfErr, IfOk, MatchResult, Ok, OnOk, count_by, length, not, string_bytes};
+ghost use Rattle.wh_file_faults.specs.Made.{IsFaultIn};
+ghost use Rattle.wh_console.specs.declared.files.InputFault.TheVariants.{OutOfMemory as InputMemory};
 ghost use Rattle.wh_json.specs.Events.{history};
 ghost use Rattle.wh_replay.specs.Replays.{workflow_of};
-ghost use Rattle.wh_service.specs.Readings.{AreRead, HasRead, IsReading, faulty_of, is_unread};
-ghost use Rattle.wh_service.specs.Readings.{reading, readings_of};
+ghost use Rattle.wh_service.specs.Faults.{HasHistory, IsFaultOf, IsReadDetailIn, IsReportedOf};
+ghost use Rattle.wh_service.specs.Made.{IsMadeOf};
+ghost use Rattle.wh_service.specs.Readings.{AreRead, HasRead, IsReading, faulty_of, is_unread, reading, readings_of};
 
+use crate::file_faults::{FileFault, code_fault, json_fault};
+use crate::parallel::all_made;
 use std::alloc::Global;
 use std::thread::Threads;
+use wh_console::InputFault;
 use wh_events::{Event, OutOfMemory};
-use wh_file_faults::{FileFault, all_made, code_fault, json_fault};
-use wh_files::InputFault;
 use wh_json::{ReadFault, read_events};
 use wh_machines::Track;
 use wh_replay::{RunFault, track_of, workflow_of};
@@ -115,7 +115,7 @@ fn with_code_fault<W: Workflow>(
 ) -> Result<(Vec<Event>, Option<FileFault>), InputFault>
     requires { HasHistory bytes.now track }
     ensures events { IfOk result (λ own. history bytes.now ≡ Ok own.0.items) }
-    ensures fault { IfOk result (λ own. IsFaultOf (IsCauseIn W.program) name.now bytes.now own.1) }
+    ensures fault { IfOk result (λ own. IsFaultOf (IsReadDetailIn W.program) name.now bytes.now own.1) }
     ensures memory { IfErr result (λ fault. fault ≡ InputMemory) }
 {
     match code_fault::<W>(alloc, name, &track) {
@@ -126,7 +126,7 @@ fn with_code_fault<W: Workflow>(
 
 /// A history, and its workflow type, which is not registered, if its events are in place. Only if
 /// they are not, its bytes are parsed once more.
-fn placed<W: Workflow>(
+fn checked_history<W: Workflow>(
     alloc: Global,
     name: &str,
     events: Vec<Event>,
@@ -134,7 +134,7 @@ fn placed<W: Workflow>(
 ) -> Result<(Vec<Event>, Option<FileFault>), InputFault>
     requires { history bytes.now ≡ Ok events.items }
     ensures events { IfOk result (λ own. history bytes.now ≡ Ok own.0.items) }
-    ensures fault { IfOk result (λ own. IsFaultOf (IsCauseIn W.program) name.now bytes.now own.1) }
+    ensures fault { IfOk result (λ own. IsFaultOf (IsReadDetailIn W.program) name.now bytes.now own.1) }
     ensures memory { IfErr result (λ fault. fault ≡ InputMemory) }
 {
     match track_of(alloc, events) {
@@ -153,18 +153,18 @@ fn with_fault<W: Workflow>(
 ) -> Result<(Vec<Event>, Option<FileFault>), InputFault>
     requires { history bytes.now ≡ Ok events.items }
     ensures events { IfOk result (λ own. history bytes.now ≡ Ok own.0.items) }
-    ensures fault { IfOk result (λ own. IsFaultOf (IsCauseIn W.program) name.now bytes.now own.1) }
+    ensures fault { IfOk result (λ own. IsFaultOf (IsReadDetailIn W.program) name.now bytes.now own.1) }
     ensures memory { IfErr result (λ fault. fault ≡ InputMemory) }
 {
     if lacks_code::<W>(events.as_slice()) {
-        placed::<W>(alloc, name, events, bytes)
+        checked_history::<W>(alloc, name, events, bytes)
     } else {
         Ok((events, None))
     }
 }
 
 /// What is reported of a file that can't be read: where it is not JSON.
-#[tactic(auto, using(wh_file_faults::proofs::Faults::of_json))]
+#[tactic(auto, using(crate::proofs::Faults::of_json))]
 fn unread_fault<W: Workflow>(
     alloc: Global,
     name: &str,
@@ -172,7 +172,7 @@ fn unread_fault<W: Workflow>(
     bytes: &[u8],
 ) -> Result<Option<FileFault>, OutOfMemory>
     requires { history bytes.now ≡ Err fault.now }
-    ensures { IfOk result (IsFaultOf (IsCauseIn W.program) name.now bytes.now) }
+    ensures { IfOk result (IsFaultOf (IsReadDetailIn W.program) name.now bytes.now) }
 {
     match fault {
         ReadFault::BadJson => json_fault(alloc, name, bytes),
@@ -181,7 +181,7 @@ fn unread_fault<W: Workflow>(
 }
 
 /// What was read of a file that can't be read, and what is reported of it.
-fn unread<W: Workflow>(
+fn unread_file<W: Workflow>(
     alloc: Global,
     name: String,
     fault: ReadFault,
@@ -189,7 +189,7 @@ fn unread<W: Workflow>(
 ) -> Result<(ReadFile, Option<FileFault>), InputFault>
     requires { history bytes.now ≡ Err fault }
     ensures reading { IfOk result (λ made. reading made.0 ≡ (string_bytes name, history bytes.now)) }
-    ensures fault { IfOk result (λ made. IsFaultOf (IsCauseIn W.program) (string_bytes name) bytes.now made.1) }
+    ensures fault { IfOk result (λ made. IsFaultOf (IsReadDetailIn W.program) (string_bytes name) bytes.now made.1) }
     ensures memory { IfErr result (λ fault. fault ≡ InputMemory) }
 {
     match unread_fault::<W>(alloc, name.as_str(), &fault, bytes) {
@@ -218,7 +218,7 @@ fn read_file<W: Workflow>(
             Ok((ReadFile { name, outcome }, own.1))
         }
         Err(ReadFault::OutOfMemory) => Err(InputFault::OutOfMemory),
-        Err(fault) => unread::<W>(alloc, name, fault, bytes.as_slice()),
+        Err(fault) => unread_file::<W>(alloc, name, fault, bytes.as_slice()),
     }
 }
 

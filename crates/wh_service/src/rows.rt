@@ -12,8 +12,7 @@ use std::io::Write;
 use wh_events::Text;
 use wh_host::Totals;
 use wh_json::ReadFault;
-use wh_tester::{Shown, write_line};
-use wh_verdict::{Line, Verdict};
+use wh_tester::{Line, Shown, Verdict, write_line};
 
 /// How many tasks of a file were polled, and how they ended.
 #[derive(Clone, Copy)]
@@ -28,7 +27,7 @@ pub struct FileCounts {
 
 /// A file by its name, with what came of its tasks, or why it cannot be read.
 #[derive(Drop)]
-pub struct Row {
+pub struct FileRow {
     /// The name of the file.
     pub name: Text,
     /// Its counts, or the fault of reading it.
@@ -53,10 +52,10 @@ fn write_counts<O: Write>(name: &str, counts: FileCounts, writer: &mut O) -> io:
 }
 
 /// Writes the line of a file.
-fn write_row<O: Write>(row: Row, writer: &mut O) -> io::Result<()>
+fn write_row<O: Write>(row: FileRow, writer: &mut O) -> io::Result<()>
     ensures { OnOk result (Appends (O.contents writer.old) (O.contents writer.new) (row_text row)) }
 {
-    let Row { name, outcome } = row;
+    let FileRow { name, outcome } = row;
     match outcome {
         Ok(counts) => write_counts(name.get(), counts, writer),
         Err(fault) => {
@@ -70,7 +69,7 @@ fn write_row<O: Write>(row: Row, writer: &mut O) -> io::Result<()>
 }
 
 /// Writes a line for each file, in the order given.
-fn write_rows<O: Write>(rows: Vec<Row>, writer: &mut O) -> io::Result<()>
+fn write_rows<O: Write>(rows: Vec<FileRow>, writer: &mut O) -> io::Result<()>
     ensures { OnOk result (Appends (O.contents writer.old) (O.contents writer.new) (flat_map row_text rows.items)) }
 {
     for row in rows {
@@ -82,7 +81,7 @@ fn write_rows<O: Write>(rows: Vec<Row>, writer: &mut O) -> io::Result<()>
 /// Writes a line for each file in the order given, then the totals. After an error some of the
 /// report may have been written.
 pub(crate) fn write_service<O: Write>(
-    rows: Vec<Row>,
+    rows: Vec<FileRow>,
     totals: Totals,
     writer: &mut O,
 ) -> io::Result<()>
@@ -93,7 +92,7 @@ pub(crate) fn write_service<O: Write>(
 }
 
 /// Whether the file was read and none of its tasks failed.
-fn is_good(row: &Row) -> bool
+fn is_good(row: &FileRow) -> bool
     ensures { result ≡ is_good_outcome row.now.outcome }
 {
     match &row.outcome {
@@ -103,7 +102,7 @@ fn is_good(row: &Row) -> bool
 }
 
 /// Whether each file was read and no task of theirs failed.
-pub(crate) fn are_good(rows: &[Row]) -> bool
+pub(crate) fn are_good(rows: &[FileRow]) -> bool
     ensures { result ≡ are_good rows.now }
 {
     rows.iter().all(|row| is_good(row))

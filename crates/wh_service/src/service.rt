@@ -1,15 +1,14 @@
 //! Recorded histories are served by a host, and the report is written.
 
 ghost use Rattle.std.specs.Prelude.{◌≡◌, ◌≢◌, Ok, Err, IfOk, IfErr, All, map, vec_len};
-ghost use Rattle.wh_file_faults.specs.Faults.{AreFaultsOf};
 ghost use Rattle.wh_host.specs.Machine.{IsConfig};
+ghost use Rattle.wh_service.specs.Faults.{AreFaultsOf};
 ghost use Rattle.wh_service.specs.Readings.{reading, reading_of, readings_of};
-ghost use Rattle.wh_service.specs.Services.{HasItsTurns, IsEndOf, IsHost, IsHosted, IsServed, IsServiceEnd};
-ghost use Rattle.wh_service.specs.Services.{IsServiceEndOver, IsServiceOf, IsUnserved, IsUnwritten, leaves};
-ghost use Rattle.wh_service.specs.Services.{status_of};
+ghost use Rattle.wh_service.specs.Services.{HasItsTurns, IsEndOf, IsHost, IsHosted, IsServed, IsServiceEnd, IsServiceEndOver, IsServiceOf, IsUnserved, IsUnwritten, leaves, status_of};
 
 use crate::assignment::assign_sources;
 use crate::failures::FileFailure;
+use crate::file_faults::FileFault;
 use crate::host::{ServiceHost, ServiceSetup, host_of};
 use crate::outcomes::{Service, gather};
 use crate::readings::{ReadFile, ReadFiles, read_inputs};
@@ -18,9 +17,9 @@ use std::alloc::Global;
 use std::io::Write;
 use std::sync::Wait;
 use std::thread::Threads;
+use wh_console::InputFault;
 use wh_events::OutOfMemory;
-use wh_file_faults::{CommandFault, FileFault};
-use wh_files::InputFault;
+use wh_file_faults::CommandFault;
 use wh_host::Config;
 use wh_poll::{NoActivities, NoObserver, WorkerSetup};
 use wh_recorded::ScriptSource;
@@ -110,7 +109,7 @@ pub struct ServiceEnd {
 
 /// What a host left of files that it served, whose report is not written yet.
 #[derive(Drop)]
-pub struct Served {
+pub struct PendingReport {
     pub(crate) service: Service,
     pub(crate) file_faults: Vec<FileFault>,
 }
@@ -123,7 +122,7 @@ pub fn serve_read<F: Fn(Config, Vec<ServiceSetup>) -> Result<ServiceHost, OutOfM
     read: ReadFiles,
     config: Config,
     host: F,
-) -> Result<Served, OutOfMemory>
+) -> Result<PendingReport, OutOfMemory>
 where
     F: Drop,
     requires sizes { IsConfig config }
@@ -133,7 +132,7 @@ where
 {
     let ReadFiles { files, faults } = read;
     let service = serve_all(alloc, files, config, host)?;
-    Ok(Served {
+    Ok(PendingReport {
         service,
         file_faults: faults,
     })
@@ -142,11 +141,14 @@ where
 /// Writes the report of files that were served, a line for each file in their order, then the
 /// totals, and returns what else is reported of them. The fault is `Output`; then part of the
 /// report may be written.
-pub fn report_served<O: Write>(served: Served, writer: &mut O) -> Result<ServiceEnd, CommandFault>
+pub fn report_served<O: Write>(
+    served: PendingReport,
+    writer: &mut O,
+) -> Result<ServiceEnd, CommandFault>
     ensures written { IfOk result (IsEndOf served (O.contents writer.old) (O.contents writer.new)) }
     ensures output { result ≢ Err CommandFault.OutOfMemory }
 {
-    let Served {
+    let PendingReport {
         service,
         file_faults,
     } = served;

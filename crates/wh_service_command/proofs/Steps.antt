@@ -8,29 +8,29 @@ use Rattle.wh_diagnostics.proofs.ReadFailures.{unread_unreported}
 use Rattle.wh_diagnostics.specs.Failures.{IsReadFailure, IsReportFailure}
 use Rattle.wh_diagnostics.specs.Printing.{status_with}
 use Rattle.wh_diagnostics.specs.declared.failures.Failure.{Failure}
-use Rattle.wh_file_faults.specs.Faults.{AreFaultsOf}
-use Rattle.wh_files.specs.Inputs.{IsReadFrom}
-use Rattle.wh_files.specs.declared.Input.{Input}
+use Rattle.wh_service.specs.Faults.{AreFaultsOf}
+use Rattle.wh_console.specs.Inputs.{IsReadFrom}
+use Rattle.wh_console.specs.declared.files.Input.{Input}
 use Rattle.wh_host.specs.declared.config.Config.{Config}
-use Rattle.wh_inputs.specs.Listings.{IsListed, lacks_files}
-use Rattle.wh_inputs.specs.Readings.{Gives, IsReadAs}
-use Rattle.wh_progress.proofs.Batched.{stopped_after_all, stopped_whole, told_in_all, HasAMarkEach}
-use Rattle.wh_progress.specs.Batches.{reported_batches, reports_after, reports_of, HasStopped}
-use Rattle.wh_progress.specs.Lines.{end_text}
-use Rattle.wh_progress.specs.Modes.{mode_by}
-use Rattle.wh_progress.specs.declared.mode.ProgressMode.{ProgressMode}
+use Rattle.wh_diagnostics.specs.Listings.{IsListed, lacks_files}
+use Rattle.wh_diagnostics.specs.Readings.{Gives, IsReadAs}
+use Rattle.wh_diagnostics.proofs.Batched.{stopped_after_all, stopped_whole, told_in_all, HasAMarkEach}
+use Rattle.wh_diagnostics.specs.Batches.{reported_batches, reports_after, reports_of, HasStopped}
+use Rattle.wh_diagnostics.specs.ProgressLines.{end_text}
+use Rattle.wh_diagnostics.specs.ProgressModes.{mode_by}
+use Rattle.wh_diagnostics.specs.declared.progress_modes.ProgressMode.{ProgressMode}
 use Rattle.wh_service.proofs.FilesRead.{read_each}
 use Rattle.wh_service.proofs.Workers.{by_closure, end_by, end_of_served}
 use Rattle.wh_service.specs.Readings.{faulty_of, reading_of, readings_of, HasRead}
 use Rattle.wh_service.specs.Services.{HostsBy, IsEndOf, IsHosted, IsServiceEnd}
 use Rattle.wh_service.specs.declared.readings.ReadFiles.{ReadFiles}
-use Rattle.wh_service.specs.declared.service.Served.{Served}
+use Rattle.wh_service.specs.declared.service.PendingReport.{PendingReport}
 use Rattle.wh_service.specs.declared.service.ServiceEnd.{ServiceEnd}
 use Rattle.wh_service_command.specs.Commands.{faulty_in, HasFinished, HasNotServed, HasNotServedFolder, HasReadAll, HasServed, HasServedAll, HasServedFolder, IsCutOff}
 use Rattle.wh_workflow.specs.Law.{Program}
 
 -- what was written of a service stays
-end_kept : (served : Served) (old mid new : Option (List ℕ)) (end : ServiceEnd)
+end_kept : (served : PendingReport) (old mid new : Option (List ℕ)) (end : ServiceEnd)
     → IsEndOf served old mid end → Keeps mid new → IsEndOf served old new end
 end_kept served old mid new end h kept = record {
   written = written_kept old mid new _ h.written kept;
@@ -46,7 +46,7 @@ marked : {S : Type 0} (gives : Gives) (program : Program S) → HasAMarkEach (Ha
 marked gives program own made are = read_each (IsReadAs gives) program own made are
 
 -- what was served was written, and then the rest was reported
-pub served_all : {S : Type 0} (gives : Gives) (program : Program S) (types : List ℕ) (hosts : HostsBy) (config sizes : Config) (inputs : List Input) (mode : ProgressMode) (lines : ℕ) (lacks : Bool) (old read first new : ConsoleView) (served : Served) (status : ℕ)
+pub served_all : {S : Type 0} (gives : Gives) (program : Program S) (types : List ℕ) (hosts : HostsBy) (config sizes : Config) (inputs : List Input) (mode : ProgressMode) (lines : ℕ) (lacks : Bool) (old read first new : ConsoleView) (served : PendingReport) (status : ℕ)
     → config ≡ sizes
     → lines ≡ reported_batches mode (length inputs)
     → HasServed gives program hosts config inputs mode old read served
@@ -76,7 +76,7 @@ served_all gives program types hosts config sizes inputs mode lines lacks old re
     }
 
 -- all inputs were read, and progress was reported
-all_read : {S : Type 0} (gives : Gives) (program : Program S) (hosts : HostsBy) (config : Config) (inputs : List Input) (mode : ProgressMode) (lines : ℕ) (old read first : ConsoleView) (served : Served)
+all_read : {S : Type 0} (gives : Gives) (program : Program S) (hosts : HostsBy) (config : Config) (inputs : List Input) (mode : ProgressMode) (lines : ℕ) (old read first : ConsoleView) (served : PendingReport)
     → lines ≡ reported_batches mode (length inputs)
     → HasServed gives program hosts config inputs mode old read served
     → Reported read first (end_text mode lines)
@@ -89,7 +89,7 @@ all_read gives program hosts config inputs mode lines old read first served many
 }
 
 -- what was served can't be written
-pub cut_off : {S : Type 0} (gives : Gives) (program : Program S) (hosts : HostsBy) (config : Config) (inputs : List Input) (mode : ProgressMode) (lines : ℕ) (old read first new : ConsoleView) (served : Served) (failure : Failure)
+pub cut_off : {S : Type 0} (gives : Gives) (program : Program S) (hosts : HostsBy) (config : Config) (inputs : List Input) (mode : ProgressMode) (lines : ℕ) (old read first new : ConsoleView) (served : PendingReport) (failure : Failure)
     → lines ≡ reported_batches mode (length inputs)
     → HasServed gives program hosts config inputs mode old read served
     → Reported read first (end_text mode lines)
@@ -106,7 +106,7 @@ cut_off gives program hosts config inputs mode lines old read first new served f
 }
 
 -- so it is with what the rest of the command gives
-pub served_all_if : {S : Type 0} (gives : Gives) (program : Program S) (types : List ℕ) (hosts : HostsBy) (config sizes : Config) (inputs : List Input) (mode : ProgressMode) (lines : ℕ) (lacks : Bool) (old read first new : ConsoleView) (served : Served) (answer : Result ℕ Failure)
+pub served_all_if : {S : Type 0} (gives : Gives) (program : Program S) (types : List ℕ) (hosts : HostsBy) (config sizes : Config) (inputs : List Input) (mode : ProgressMode) (lines : ℕ) (lacks : Bool) (old read first new : ConsoleView) (served : PendingReport) (answer : Result ℕ Failure)
     → config ≡ sizes
     → lines ≡ reported_batches mode (length inputs)
     → HasServed gives program hosts config inputs mode old read served
@@ -117,7 +117,7 @@ served_all_if gives program types hosts config sizes inputs mode lines lacks old
     served_all gives program types hosts config sizes inputs mode lines lacks old read first new served status same many h erased finished
 served_all_if gives program types hosts config sizes inputs mode lines lacks old read first new served (Err failure) same many h erased finished = tt
 
-pub cut_off_if : {S : Type 0} (gives : Gives) (program : Program S) (hosts : HostsBy) (config : Config) (inputs : List Input) (mode : ProgressMode) (lines : ℕ) (old read first new : ConsoleView) (served : Served) (answer : Result ℕ Failure)
+pub cut_off_if : {S : Type 0} (gives : Gives) (program : Program S) (hosts : HostsBy) (config : Config) (inputs : List Input) (mode : ProgressMode) (lines : ℕ) (old read first new : ConsoleView) (served : PendingReport) (answer : Result ℕ Failure)
     → lines ≡ reported_batches mode (length inputs)
     → HasServed gives program hosts config inputs mode old read served
     → Reported read first (end_text mode lines)
@@ -160,26 +160,28 @@ pub served_folder : {S : Type 0} (program : Program S) (types dir : List ℕ) (c
     → IfOk answer (HasServedFolder program types dir config required progress old new)
 served_folder program types dir config required progress left_out lacks link mode inputs old between new (Ok status) listed same shown h =
     record {
-      link = link;
       inputs = inputs;
       left_out = left_out;
       between = between;
       listed = listed;
-      served = record {
-        files = h.files;
-        end = h.end;
-        read = h.read;
-        between = h.between;
-        ended = h.ended;
-        from = h.from;
-        told = subst (λ m. Reported between h.read (reports_of m (faulty_of (map reading_of h.files)))) shown h.told;
-        quiet = h.quiet;
-        served = end_by (by_closure (IsHosted program)) (IsHosted program) config (map reading_of h.files) h.read.output h.between.output h.end (λ setups left hosted. hosted.2) h.served;
-        faults = h.faults;
-        reported = h.reported;
-        known = h.known;
-        ends = subst (λ l. status ≡ status_with l h.end.status) same h.ends;
-      };
+      done = (
+        link,
+        record {
+          files = h.files;
+          end = h.end;
+          read = h.read;
+          between = h.between;
+          ended = h.ended;
+          from = h.from;
+          told = subst (λ m. Reported between h.read (reports_of m (faulty_of (map reading_of h.files)))) shown h.told;
+          quiet = h.quiet;
+          served = end_by (by_closure (IsHosted program)) (IsHosted program) config (map reading_of h.files) h.read.output h.between.output h.end (λ setups left hosted. hosted.2) h.served;
+          faults = h.faults;
+          reported = h.reported;
+          known = h.known;
+          ends = subst (λ l. status ≡ status_with l h.end.status) same h.ends;
+        },
+      );
     }
 served_folder program types dir config required progress left_out lacks link mode inputs old between new (Err failure) listed same shown h = tt
 
@@ -192,10 +194,9 @@ pub stopped_in_folder : {S : Type 0} (program : Program S) (dir : List ℕ) (pro
 stopped_in_folder program dir progress left_out link mode inputs old between new (Ok status) listed shown h = tt
 stopped_in_folder program dir progress left_out link mode inputs old between new (Err failure) listed shown h =
     inr (record {
-      link = link;
       inputs = inputs;
       left_out = left_out;
       between = between;
       listed = listed;
-      stopped = subst (λ m. HasNotServed IsReadFrom program inputs m between new failure) shown h;
+      done = (link, subst (λ m. HasNotServed IsReadFrom program inputs m between new failure) shown h);
     })

@@ -7,27 +7,24 @@ use Rattle.wh_diagnostics.specs.Failures.{IsReportFailure}
 use Rattle.wh_diagnostics.specs.Printing.{status_with}
 use Rattle.wh_diagnostics.specs.declared.failures.Failure.{Failure}
 use Rattle.wh_diagnostics.specs.declared.failures.Failure.TheVariants.{Output}
-use Rattle.wh_file_faults.specs.Faults.{AreFaultsOf, File}
-use Rattle.wh_files.specs.Inputs.{IsReadFrom}
-use Rattle.wh_files.specs.declared.Input.{Input}
+use Rattle.wh_file_faults.specs.Faults.{File}
+use Rattle.wh_console.specs.Inputs.{IsReadFrom}
+use Rattle.wh_console.specs.declared.files.Input.{Input}
 use Rattle.wh_host.specs.declared.config.Config.{Config}
-use Rattle.wh_inputs.specs.Listings.{IsListed, IsUnreadAt, lacks_files}
-use Rattle.wh_inputs.specs.Readings.{Gives, IsReadAs}
-use Rattle.wh_known_types.specs.Types.{known_types_text, faults_lack_code}
-use Rattle.wh_progress.specs.Batches.{HasStoppedWhole, reports_after, reported_batches, reports_of}
-use Rattle.wh_progress.specs.Modes.{mode_by}
-use Rattle.wh_progress.specs.declared.mode.ProgressMode.{ProgressMode}
+use Rattle.wh_diagnostics.specs.Listings.{AfterListing, IsListed, IsUnreadAt, lacks_files}
+use Rattle.wh_diagnostics.specs.Readings.{Gives, IsReadAs}
+use Rattle.wh_diagnostics.specs.KnownTypes.{known_types_text}
+use Rattle.wh_diagnostics.specs.Batches.{HasStoppedWhole, reports_after, reported_batches, reports_of}
+use Rattle.wh_diagnostics.specs.ProgressModes.{mode_by}
+use Rattle.wh_diagnostics.specs.declared.progress_modes.ProgressMode.{ProgressMode}
+use Rattle.wh_service.specs.Faults.{AreFaultsOf}
 use Rattle.wh_service.specs.Readings.{HasRead, faulty_of, reading_of, readings_of}
 use Rattle.wh_service.specs.Services.{HostsBy, IsEndOf, IsHosted, IsServed, IsServiceEnd}
 use Rattle.wh_service.specs.declared.readings.ReadFiles.{ReadFiles}
-use Rattle.wh_service.specs.declared.service.Served.{Served}
+use Rattle.wh_service.specs.declared.service.PendingReport.{PendingReport}
 use Rattle.wh_service.specs.declared.service.ServiceEnd.{ServiceEnd}
-use Rattle.wh_service_command.specs.Diagnostics.{service_lines}
+use Rattle.wh_service_command.specs.Diagnostics.{faults_lack_code, service_lines}
 use Rattle.wh_workflow.specs.Law.{Program}
-
--- the type of the workflow of a file is not registered
-abbrev pub lacks_code : ServiceEnd → Bool
-lacks_code end = faults_lack_code end.file_faults.items
 
 -- which files have a fault, as progress counts them
 abbrev pub faulty_in : ReadFiles → List Bool
@@ -35,7 +32,7 @@ faulty_in read = faulty_of (readings_of read)
 
 -- inputs were read batch by batch, progress was reported after each batch but the last, and a host served the files
 pub record HasServed {S : Type 0} (gives : Gives) (program : Program S) (hosts : HostsBy) (config : Config)
-    (inputs : List Input) (mode : ProgressMode) (old new : ConsoleView) (served : Served) : Type 0 where
+    (inputs : List Input) (mode : ProgressMode) (old new : ConsoleView) (served : PendingReport) : Type 0 where
   pub read : ReadFiles
   pub found : HasRead (IsReadAs gives) program inputs read
   pub reported : Reported old new
@@ -51,11 +48,11 @@ pub record HasEnded (types : List ℕ) (end : ServiceEnd) (lacks : Bool) (old ne
   pub quiet : IsQuiet old between
   pub kept : Keeps old.output between.output
   pub reported : Reported between ended (service_lines end)
-  pub known : Reported ended new (known_types_text types (lacks_code end))
+  pub known : Reported ended new (known_types_text types (faults_lack_code end.file_faults.items))
   pub ends : status ≡ status_with lacks end.status
 
 -- the report of what was served was written, and once it was out, the rest was reported
-pub record HasFinished (types : List ℕ) (served : Served) (lacks : Bool) (old new : ConsoleView)
+pub record HasFinished (types : List ℕ) (served : PendingReport) (lacks : Bool) (old new : ConsoleView)
     (status : ℕ) : Type 0 where
   pub end : ServiceEnd
   pub between : ConsoleView
@@ -85,7 +82,7 @@ pub record HasServedAll {S : Type 0} (gives : Gives) (program : Program S) (type
   pub served : IsServiceEnd hosts config (map reading_of files) read.output between.output end
   pub faults : AreFaultsOf program files end.file_faults.items
   pub reported : Reported between ended (service_lines end)
-  pub known : Reported ended new (known_types_text types (lacks_code end))
+  pub known : Reported ended new (known_types_text types (faults_lack_code end.file_faults.items))
   pub ends : status ≡ status_with lacks end.status
 
 -- the files of inputs, in the same order, were read, and progress was reported, by which of them have no history that
@@ -110,29 +107,18 @@ pub record HasNotServed {S : Type 0} (gives : Gives) (program : Program S) (inpu
 
 -- the files of a folder were served by a host of these sizes, and progress was reported as some link of the standard
 -- error and the option for it have it
-pub record HasServedFolder {S : Type 0} (program : Program S) (types dir : List ℕ) (config : Config)
-    (required progress : Bool) (old new : ConsoleView) (status : ℕ) : Type 0 where
-  pub link : Option (List ℕ)
-  pub inputs : List Input
-  pub left_out : Bool
-  pub between : ConsoleView
-  pub listed : IsListed false dir inputs left_out old between
-  pub served : HasServedAll IsReadFrom program types (IsHosted program) config inputs (mode_by link progress)
-      (lacks_files left_out required inputs) between new status
+abbrev pub HasServedFolder : {S : Type 0} → Program S → (types dir : List ℕ) → Config → (required progress : Bool)
+    → (old new : ConsoleView) → (status : ℕ) → Type 0
+HasServedFolder program types dir config required progress =
+    AfterListing (IsListed false dir) (λ inputs left_out old new status. (link : Option (List ℕ))
+    × HasServedAll IsReadFrom program types (IsHosted program) config inputs (mode_by link progress)
+    (lacks_files left_out required inputs) old new status)
 
--- the files of a folder were listed, and there is no report of a service of them, or it can't be written
-pub record HasStoppedInFolder {S : Type 0} (program : Program S) (dir : List ℕ) (progress : Bool)
-    (old new : ConsoleView) (failure : Failure) : Type 0 where
-  pub link : Option (List ℕ)
-  pub inputs : List Input
-  pub left_out : Bool
-  pub between : ConsoleView
-  pub listed : IsListed false dir inputs left_out old between
-  pub stopped : HasNotServed IsReadFrom program inputs (mode_by link progress) between new failure
-
--- there is no report of a service of a folder: it can't be listed, and the console is as it was, or there is none of
--- its files
+-- there is no report of a service of a folder: it can't be listed, and the console is as it was, or its files have none,
+-- or it can't be written
 abbrev pub HasNotServedFolder : {S : Type 0} → Program S → (dir : List ℕ) → (progress : Bool) → (old new : ConsoleView)
     → Failure → Type 0
 HasNotServedFolder program dir progress old new failure =
-    (IsUnreadAt dir failure × (new ≡ old)) ⊎ HasStoppedInFolder program dir progress old new failure
+    (IsUnreadAt dir failure × (new ≡ old))
+    ⊎ AfterListing (IsListed false dir) (λ inputs left_out old new failure. (link : Option (List ℕ))
+    × HasNotServed IsReadFrom program inputs (mode_by link progress) old new failure) old new failure

@@ -2,18 +2,18 @@
 
 ghost use Rattle.std.specs.Prelude.{◌≡◌, IfErr, IfOk, OnOk, length};
 ghost use Rattle.wh_console.specs.Consoles.{Reported};
-ghost use Rattle.wh_inputs.specs.Readings.{IsReadAs};
-ghost use Rattle.wh_progress.specs.Batches.{HasStopped, reports_after, reported_batches};
-ghost use Rattle.wh_progress.specs.Lines.{progress_of};
+ghost use Rattle.wh_diagnostics.specs.Batches.{HasStopped, reports_after, reported_batches};
+ghost use Rattle.wh_diagnostics.specs.ProgressLines.{progress_of};
+ghost use Rattle.wh_diagnostics.specs.Readings.{IsReadAs};
 ghost use Rattle.wh_service.specs.Readings.{AddsRead, HasRead};
 ghost use Rattle.wh_service_command.specs.Commands.{faulty_in};
 
 use std::io::Write;
 use std::thread::Threads;
-use wh_console::Console;
-use wh_files::{Input, InputFault};
-use wh_inputs::{InputReader, file_from};
-use wh_progress::{Progress, ProgressLine, ProgressMode, batch_size, reported_batches};
+use wh_console::{Console, Input, InputFault};
+use wh_diagnostics::{
+    InputReader, Progress, ProgressLine, ProgressMode, batch_size, file_from, reported_batches,
+};
 use wh_service::{ReadFiles, read_inputs};
 use wh_workflow::Workflow;
 

@@ -2,14 +2,15 @@
 
 ghost use Rattle.std.specs.Prelude.{◌≡◌, None, OnOk, option_map};
 ghost use Rattle.std.specs.Io.KnownBytes.{Appends};
-ghost use Rattle.wh_service_command.specs.Diagnostics.{failure_line, failure_lines, is_reported_before};
+ghost use Rattle.wh_service_command.specs.Diagnostics.{failure_line, failure_lines, fault_line, fault_lines};
+ghost use Rattle.wh_service_command.specs.Diagnostics.{faults_lack_code, is_reported_before};
 ghost use Rattle.wh_service_command.specs.Diagnostics.{service_lines, uncompared_lines, worker_lines};
 
 use std::io;
 use std::io::Write;
 use wh_console::Message;
-use wh_diagnostics::{write_faults, write_line};
-use wh_service::{FileFailure, RepeatedFailure, ServiceEnd, is_repeat, repeats};
+use wh_diagnostics::{is_no_code, write_detail, write_line};
+use wh_service::{FileFailure, FileFault, RepeatedFailure, ServiceEnd, is_repeat, repeats};
 use wh_tester::Shown;
 
 /// What is reported of a service beside its report.
@@ -17,6 +18,33 @@ use wh_tester::Shown;
 pub(crate) struct ServiceNotes {
     /// How the service ended.
     pub(crate) end: ServiceEnd,
+}
+
+/// Whether the workflow type of a file with one of these faults is not registered.
+pub(crate) fn faults_lack_code(faults: &[FileFault]) -> bool
+    ensures { result ≡ faults_lack_code faults.now }
+{
+    faults.iter().any(|fault| is_no_code(&fault.detail))
+}
+
+/// Writes that a file is not JSON, or that its workflow type is not registered.
+fn write_fault<E: Write>(fault: &FileFault, name: &str, writer: &mut E) -> io::Result<()>
+    ensures { OnOk result (Appends (E.contents writer.old) (E.contents writer.new) (fault_line fault.now name.now)) }
+{
+    write_detail(fault.name.get(), &fault.detail, name, writer)
+}
+
+/// Writes one line for each file that is not JSON, or whose workflow type is not registered.
+fn write_faults<E: Write>(faults: Vec<FileFault>, name: &str, writer: &mut E) -> io::Result<()>
+    ensures { OnOk result (Appends (E.contents writer.old) (E.contents writer.new)
+        (fault_lines faults.items name.now)) }
+{
+    for fault in faults {
+        let written = write_fault(&fault, name, writer);
+        drop(fault);
+        written?;
+    }
+    Ok(())
 }
 
 /// Whether a failed task repeats the one before it, if there is one.

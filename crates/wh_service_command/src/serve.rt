@@ -3,32 +3,30 @@
 ghost use Rattle.std.specs.Prelude.{◌≡◌, IfErr, IfOk, vec_len};
 ghost use Rattle.wh_command_line.specs.Options.{sizes_of};
 ghost use Rattle.wh_console.specs.Consoles.{IsQuiet};
+ghost use Rattle.wh_diagnostics.specs.Batches.{HasStopped};
 ghost use Rattle.wh_diagnostics.specs.Failures.{IsReadFailure};
+ghost use Rattle.wh_diagnostics.specs.Readings.{IsReadAs};
 ghost use Rattle.wh_host.specs.Machine.{IsConfig};
-ghost use Rattle.wh_inputs.specs.Readings.{IsReadAs};
-ghost use Rattle.wh_progress.specs.Batches.{HasStopped};
 ghost use Rattle.wh_service.specs.Readings.{HasRead};
 ghost use Rattle.wh_service.specs.Services.{IsEndOf, IsHost, IsHosted, leaves};
-ghost use Rattle.wh_service_command.specs.Commands.{HasEnded, HasFinished, HasNotServed, HasNotServedFolder};
-ghost use Rattle.wh_service_command.specs.Commands.{HasServed, HasServedAll, HasServedFolder, IsCutOff, faulty_in};
+ghost use Rattle.wh_service_command.specs.Commands.{HasEnded, HasFinished, HasNotServed, HasNotServedFolder, HasServed, HasServedAll, HasServedFolder, IsCutOff, faulty_in};
 
 use crate::batches::read_batches;
-use crate::diagnostics::ServiceNotes;
+use crate::diagnostics::{ServiceNotes, faults_lack_code};
 use std::io::Write;
 use std::rt::Runtime;
 use std::sync::Wait;
 use std::thread::Threads;
 use wh_command_line::ServeOptions;
-use wh_console::Console;
-use wh_diagnostics::{Failure, flushed, status_with};
+use wh_console::{Console, Input};
+use wh_diagnostics::{
+    Failure, InputReader, KnownTypes, ProgressEnd, ProgressMode, flush_answer, folder_of,
+    progress_mode, reported_batches, status_with,
+};
 use wh_events::{OutOfMemory, Text};
-use wh_files::Input;
 use wh_host::Config;
-use wh_inputs::{InputReader, folder_of};
-use wh_known_types::{KnownTypes, faults_lack_code};
-use wh_progress::{ProgressEnd, ProgressMode, progress_mode, reported_batches};
 use wh_service::{
-    Served, ServiceEnd, ServiceHost, ServiceSetup, host_of, report_served, serve_read,
+    PendingReport, ServiceEnd, ServiceHost, ServiceSetup, host_of, report_served, serve_read,
 };
 use wh_workflow::Workflow;
 
@@ -42,7 +40,7 @@ fn end_service<O: Write, E: Write>(
     ensures ended { IfOk result (HasEnded types.now end lacks console.old console.new) }
     ensures cut { IfErr result (IsCutOff console.old console.new) }
 {
-    let status = flushed(Ok(end.status), console)?;
+    let status = flush_answer(Ok(end.status), console)?;
     let lacking = faults_lack_code(end.file_faults.as_slice());
     console.report(ServiceNotes { end });
     console.report(KnownTypes { types, lacking });
@@ -51,7 +49,7 @@ fn end_service<O: Write, E: Write>(
 
 /// Writes the report of what was served.
 fn print_service<O: Write, E: Write>(
-    served: Served,
+    served: PendingReport,
     console: &mut Console<'_, O, E>,
 ) -> Result<ServiceEnd, Failure>
     ensures quiet { IsQuiet console.old console.new }
@@ -66,7 +64,7 @@ fn print_service<O: Write, E: Write>(
 
 /// Writes the report of what was served, and once it is out, reports the rest.
 fn finish<O: Write, E: Write>(
-    served: Served,
+    served: PendingReport,
     types: &str,
     lacks: bool,
     console: &mut Console<'_, O, E>,
@@ -92,7 +90,7 @@ fn read_and_serve<
     mode: ProgressMode,
     host: F,
     console: &mut Console<'_, O, E>,
-) -> Result<Served, Failure>
+) -> Result<PendingReport, Failure>
 where
     F: Drop,
     requires sizes { IsConfig config }

@@ -3,12 +3,12 @@
 ghost use Rattle.std.specs.Prelude.{◌≡◌, Bool, Err, IfOk, List, map};
 ghost use Rattle.std.specs.Io.KnownBytes.{Appends};
 ghost use Rattle.wh_command_line.specs.Sizes.{AreWithinLimits, config_of};
-ghost use Rattle.wh_file_faults.specs.Faults.{AreFaultsOf};
+ghost use Rattle.wh_service.specs.Faults.{AreFaultsOf};
 ghost use Rattle.wh_host.specs.declared.reply.Totals.{Totals};
 ghost use Rattle.wh_service.specs.Readings.{reading_of};
 ghost use Rattle.wh_service.specs.Services.{IsHosted, IsService, IsServiceEnd, status_of};
 ghost use Rattle.wh_service.specs.Texts.{service_text};
-ghost use Rattle.wh_service.specs.declared.rows.Row.{Row};
+ghost use Rattle.wh_service.specs.declared.rows.FileRow.{FileRow};
 
 use std::alloc::Global;
 use std::io::Write;
@@ -59,7 +59,7 @@ pub fn serve_command<W: Workflow + Send, R: Threads + Wait + Sync, O: Write>(
     writer: &mut O,
 ) -> Result<u8, CommandFault>
     requires { AreWithinLimits workers cache cache_events slots }
-    ensures report { IfOk result (λ status. (rows : List Row) × (totals : Totals) × (faultless : Bool)
+    ensures report { IfOk result (λ status. (rows : List FileRow) × (totals : Totals) × (faultless : Bool)
         × IsService (IsHosted W.program) (config_of workers cache cache_events slots) (map reading_of files.items)
         rows totals faultless
         × Appends (O.contents writer.old) (O.contents writer.new) (service_text rows totals)

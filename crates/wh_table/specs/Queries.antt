@@ -1,5 +1,5 @@
 -- How runs that got their table with their input answer queries.
-use Rattle.wh_queryable.specs.Queries.{Queries}
+use Rattle.wh_workflow.specs.Queries.{Queries}
 use Rattle.wh_rows.specs.Queries.{row_query}
 use Rattle.wh_table.specs.declared.state.TableState.{TableState}
 

@@ -56,7 +56,7 @@ fn is_answer(commands: &[Command]) -> bool
 }
 
 /// Returns the payloads of both lists, one list after the other.
-fn joined(
+fn join_payloads(
     alloc: Global,
     front: &[Payload],
     back: Items<Payload>,
@@ -88,7 +88,7 @@ fn with_table(
             if workflow.get().is_empty() {
                 Ok(Command::ContinueAsNew {
                     workflow: kind.try_copy()?,
-                    input: joined(alloc, table, input)?,
+                    input: join_payloads(alloc, table, input)?,
                 })
             } else {
                 Ok(Command::ContinueAsNew { workflow, input })
@@ -117,7 +117,7 @@ fn carry(
 }
 
 /// Returns the commands with the table added, or none if a step may not return them.
-pub(crate) fn held(
+pub(crate) fn commands_with_table(
     alloc: Global,
     kind: &Text,
     table: &[Payload],

@@ -4,7 +4,7 @@ ghost use Rattle.wh_rows.specs.Rows.{gives, after};
 ghost use Rattle.wh_row_rules.specs.Broken.{definition};
 ghost use Rattle.wh_table.specs.Program.{given, followed};
 
-use crate::carrying::held;
+use crate::carrying::commands_with_table;
 use crate::state::TableState;
 use std::alloc::Global;
 use wh_events::OutOfMemory;
@@ -36,5 +36,5 @@ pub(crate) fn follow(
     ensures state { OnOk result (state.new ≡ followed state.old job.now) }
 {
     let commands = answer_rows(alloc, &state.table, &mut state.run, job)?;
-    held(alloc, &state.kind, state.payload.get(), commands)
+    commands_with_table(alloc, &state.kind, state.payload.get(), commands)
 }

@@ -4,8 +4,8 @@ use crate::state::TableState;
 use crate::workflow::TableWorkflow;
 use std::alloc::Global;
 use wh_events::{OutOfMemory, Payload};
-use wh_queryable::{QueryResult, Queryable, WorkflowDefinition};
 use wh_rows::{row_definition, row_query};
+use wh_workflow::{QueryResult, Queryable, WorkflowDefinition};
 
 impl Queryable for TableWorkflow {
     ghost use Rattle.wh_rows.specs.Queries.{row_definitions};

@@ -11,7 +11,7 @@ use crate::state::TableState;
 use std::alloc::Global;
 use wh_events::{Items, OutOfMemory, Payload, Text};
 use wh_row_rules::OwnedTable;
-use wh_rows::{Counts, Naming, RowsState, StateName};
+use wh_rows::{Counters, Naming, RowsState, StateName};
 use wh_table_text::{TableFault, fault_text, read_table};
 use wh_workflow::{Command, Job, no_payloads, text_of};
 
@@ -52,10 +52,10 @@ fn table_in(alloc: Global, payloads: &[Payload]) -> Result<OwnedTable, TableFaul
 }
 
 /// Returns counters that are all 0.
-fn no_counts() -> Counts
+fn no_counts() -> Counters
     ensures { result ≡ record { a = 0; b = 0; c = 0; d = 0 } }
 {
-    Counts {
+    Counters {
         a: 0,
         b: 0,
         c: 0,
@@ -80,7 +80,7 @@ fn first_run(alloc: Global, table: &OwnedTable, closed: bool) -> Result<RowsStat
     ensures { IfOk result (λ run. run ≡ record (initial (definition table.now)) { closed = closed }) }
 {
     Ok(RowsState {
-        at: StateName::owned(table.first.try_copy()?),
+        at: StateName::from_text(table.first.try_copy()?),
         closed,
         name: text_of(alloc, "")?,
         input: no_payloads(alloc),
@@ -90,7 +90,7 @@ fn first_run(alloc: Global, table: &OwnedTable, closed: bool) -> Result<RowsStat
 }
 
 /// Returns a run of this type, with this payload and table.
-fn begun(
+fn initial_state(
     alloc: Global,
     kind: Text,
     payload: Items<Payload>,
@@ -110,7 +110,7 @@ fn begun(
 pub(crate) fn not_started(alloc: Global, kind: &str) -> Result<TableState, OutOfMemory>
     ensures { IfOk result (λ state. state ≡ begun kind.now [] no_table) }
 {
-    begun(
+    initial_state(
         alloc,
         text_of(alloc, kind)?,
         no_payloads(alloc),
@@ -119,7 +119,11 @@ pub(crate) fn not_started(alloc: Global, kind: &str) -> Result<TableState, OutOf
 }
 
 /// Returns a run that failed at its start and is closed.
-fn failed(alloc: Global, kind: Text, payload: Items<Payload>) -> Result<TableState, OutOfMemory>
+fn failed_start(
+    alloc: Global,
+    kind: Text,
+    payload: Items<Payload>,
+) -> Result<TableState, OutOfMemory>
     ensures { IfOk result (λ state. state ≡ failed kind payload) }
 {
     let table = no_table(alloc)?;
@@ -150,7 +154,7 @@ fn follow_table(
     ensures state { IfOk result (λ o. o.state ≡ opened kind payload (Ok table) job.now) }
     ensures given { IfOk result (λ o. o.given.items ≡ opening kind payload (Ok table) job.now) }
 {
-    let mut state = begun(alloc, kind, payload, table)?;
+    let mut state = initial_state(alloc, kind, payload, table)?;
     let given = follow(alloc, &mut state, job)?;
     Ok(Opened { state, given })
 }
@@ -170,7 +174,7 @@ fn refuse(
     let message = fault_text(alloc, fault)?;
     given.push(Command::Fail { message })?;
     Ok(Opened {
-        state: failed(alloc, kind, payload)?,
+        state: failed_start(alloc, kind, payload)?,
         given,
     })
 }

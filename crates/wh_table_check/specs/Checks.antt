@@ -5,10 +5,10 @@ use Rattle.wh_row_rules.specs.declared.owned.OwnedTable.{OwnedTable}
 use Rattle.wh_table_text.specs.declared.fault.TableFault.{TableFault}
 use Rattle.wh_table_text.specs.Faults.{faults_of}
 use Rattle.wh_table_text.specs.Reading.{table_of}
-use Rattle.wh_table_check.specs.declared.checking.Checked.{Checked}
+use Rattle.wh_table_check.specs.declared.checking.TableCheck.{TableCheck}
 use Rattle.wh_table_check.specs.declared.checking.More.{More}
 use Rattle.wh_table_check.specs.declared.commands.TableFile.{TableFile}
-use Rattle.wh_table_check.specs.declared.finding.Finding.{Finding}
+use Rattle.wh_table_check.specs.declared.finding.TableFinding.{TableFinding}
 use Rattle.wh_table_check.specs.Findings.{fault_finding}
 use Rattle.wh_table_check.specs.Warnings.{warnings}
 
@@ -17,7 +17,7 @@ abbrev pub nothing : More
 nothing = record { good = true; text = []; members = []; paths = [] }
 
 -- the faults of a text as a table
-abbrev pub faults_found : List ℕ → List Finding
+abbrev pub faults_found : List ℕ → List TableFinding
 faults_found bytes = map fault_finding (faults_of bytes)
 
 -- the number of rows of a table
@@ -26,7 +26,7 @@ count_of (Ok table) = length table.rows
 count_of (Err fault) = 0
 
 -- its warnings
-abbrev pub warnings_of : Result OwnedTable TableFault → List Finding
+abbrev pub warnings_of : Result OwnedTable TableFault → List TableFinding
 warnings_of (Ok table) = warnings table.rows
 warnings_of (Err fault) = []
 
@@ -36,7 +36,7 @@ IsMoreOf finds (Ok table) bytes more = finds bytes more
 IsMoreOf finds (Err fault) bytes more = more ≡ nothing
 
 -- the result for a text as a table, in a file of this name, with these further findings
-abbrev pub checked : List ℕ → List ℕ → More → Checked
+abbrev pub checked : List ℕ → List ℕ → More → TableCheck
 checked name bytes more = record {
   name = name;
   rows = count_of (table_of bytes);
@@ -46,20 +46,20 @@ checked name bytes more = record {
 }
 
 -- the result for a file
-abbrev pub IsChecked : (List ℕ → More → Type 0) → TableFile → Checked → Type 0
+abbrev pub IsChecked : (List ℕ → More → Type 0) → TableFile → TableCheck → Type 0
 IsChecked finds file own =
     (own ≡ checked file.name file.bytes own.more) × IsMoreOf finds (table_of file.bytes) file.bytes own.more
 
 -- the results for files, one after another
-abbrev pub AreChecked : (List ℕ → More → Type 0) → List TableFile → List Checked → Type 0
+abbrev pub AreChecked : (List ℕ → More → Type 0) → List TableFile → List TableCheck → Type 0
 AreChecked finds [] [] = ⊤
 AreChecked finds (file ∷ files) (own ∷ others) = IsChecked finds file own × AreChecked finds files others
 AreChecked finds _ _ = ⊥
 
 -- a table has no fault, and its further findings leave it good
-abbrev pub is_good : Checked → Bool
+abbrev pub is_good : TableCheck → Bool
 is_good own = nat_eq (length own.faults) 0 && own.more.good
 
 -- 0 if each file is good, and else 1
-abbrev pub status_of : List Checked → ℕ
+abbrev pub status_of : List TableCheck → ℕ
 status_of files = if list_all is_good files then 0 else 1

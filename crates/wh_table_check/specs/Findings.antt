@@ -3,7 +3,7 @@ use Rattle.std.specs.Prelude.{ℕ, List, ◌++◌, codes, decimal, Option, Some,
 use Rattle.wh_table_text.specs.declared.fault.TableFault.{TableFault}
 use Rattle.wh_table_text.specs.declared.fault.TableFault.TheVariants as faults
 use Rattle.wh_table_text.specs.Texts.{fault_text}
-use Rattle.wh_table_check.specs.declared.finding.Finding.{Finding}
+use Rattle.wh_table_check.specs.declared.finding.TableFinding.{TableFinding}
 
 -- the row that a fault is about
 abbrev pub row_of : TableFault → Option ℕ
@@ -11,11 +11,11 @@ row_of (faults.InRow row fault) = Some row
 row_of _ = None
 
 -- a fault of a table, as a finding
-abbrev pub fault_finding : TableFault → Finding
+abbrev pub fault_finding : TableFault → TableFinding
 fault_finding fault = record { row = row_of fault; text = fault_text fault }
 
 -- the finding about the row of this number: these words, and a name in that row
-abbrev pub finding_at : ℕ → List ℕ → List ℕ → Finding
+abbrev pub finding_at : ℕ → List ℕ → List ℕ → TableFinding
 finding_at row words name = record {
   row = Some row;
   text = codes "row " ++ (decimal row ++ (codes ": " ++ (words ++ name)));

@@ -7,7 +7,7 @@ use Rattle.wh_rows.specs.Tables.{JobPattern, CommandTemplate, Row}
 use Rattle.wh_rows.specs.Rows.{some_closes}
 use Rattle.wh_rows.specs.Rules.{has_state}
 use Rattle.wh_table_text.specs.Numbered.{numbered}
-use Rattle.wh_table_check.specs.declared.finding.Finding.{Finding}
+use Rattle.wh_table_check.specs.declared.finding.TableFinding.{TableFinding}
 use Rattle.wh_table_check.specs.Findings.{finding_at}
 
 -- ---- What a row opens
@@ -51,12 +51,12 @@ opened (templates.StartChild id workflow source) = Some (codes "no row waits for
 opened _ = None
 
 -- the warning at the row of this number, unless a row waits for it
-abbrev pub unless_awaited : ℕ → Bool → Option (List ℕ × List ℕ) → List Finding
+abbrev pub unless_awaited : ℕ → Bool → Option (List ℕ × List ℕ) → List TableFinding
 unless_awaited number awaited None = []
 unless_awaited number awaited (Some said) = if awaited then [] else finding_at number said.0 said.1 ∷ []
 
 -- the warning for a command of the row of this number
-abbrev pub unawaited : ℕ → List Row → CommandTemplate → List Finding
+abbrev pub unawaited : ℕ → List Row → CommandTemplate → List TableFinding
 unawaited number rows template = unless_awaited number (is_awaited template rows) (opened template)
 
 -- ---- States
@@ -78,7 +78,7 @@ goes_on place rows row =
     bytes_eq row.state (codes "any") || (has_state row.state (take place rows) || has_way_out row.state rows)
 
 -- the warning for the first row for a state that no row leads out of
-abbrev pub stuck : ℕ → List Row → Row → List Finding
+abbrev pub stuck : ℕ → List Row → Row → List TableFinding
 stuck place rows row =
     if goes_on place rows row then []
     else finding_at (place + 1) (codes "no row leads on from the state ") row.state ∷ []
@@ -86,9 +86,9 @@ stuck place rows row =
 -- ---- All of them
 
 -- the warnings for a row
-abbrev pub row_warnings : List Row → ℕ → Row → List Finding
+abbrev pub row_warnings : List Row → ℕ → Row → List TableFinding
 row_warnings rows place row = stuck place rows row ++ flat_map (unawaited (place + 1) rows) row.gives
 
 -- the warnings for the rows of a table
-abbrev pub warnings : List Row → List Finding
+abbrev pub warnings : List Row → List TableFinding
 warnings rows = numbered (row_warnings rows) 0 rows

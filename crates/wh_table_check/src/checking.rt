@@ -4,7 +4,7 @@ ghost use Rattle.wh_table_check.specs.Warnings as rules;
 ghost use Rattle.wh_table_check.specs.Checks.{nothing, faults_found, count_of, warnings_of, IsMoreOf, checked};
 ghost use Rattle.wh_table_text.specs.Reading.{table_of};
 
-use crate::finding::{Finding, fault_findings};
+use crate::finding::{TableFinding, fault_findings};
 use crate::warning::warnings;
 use std::alloc::Global;
 use wh_events::{Items, OutOfMemory, Text};
@@ -75,21 +75,21 @@ impl MoreFindings for NoMore {
 
 /// The result of checking the table in a file.
 #[derive(Drop)]
-pub struct Checked {
+pub struct TableCheck {
     /// The name of the file.
     pub name: Text,
     /// The number of rows of the table, or 0 if it breaks a rule.
     pub rows: usize,
     /// The faults of the table. Reading it stops at the first one.
-    pub faults: Items<Finding>,
+    pub faults: Items<TableFinding>,
     /// The warnings: what the author may not have meant. There are none if the table breaks a rule.
-    pub warnings: Items<Finding>,
+    pub warnings: Items<TableFinding>,
     /// The further findings; none if the table breaks a rule.
     pub more: More,
 }
 
 /// Returns the faults of a text as a table.
-fn faults_found(alloc: Global, bytes: &[u8]) -> Result<Vec<Finding>, OutOfMemory>
+fn faults_found(alloc: Global, bytes: &[u8]) -> Result<Vec<TableFinding>, OutOfMemory>
     ensures { IfOk result (λ found. found.items ≡ faults_found bytes.now) }
 {
     let faults = list_faults(alloc, bytes)?;
@@ -100,7 +100,7 @@ fn faults_found(alloc: Global, bytes: &[u8]) -> Result<Vec<Finding>, OutOfMemory
 #[derive(Drop)]
 struct TableFacts {
     rows: usize,
-    warnings: Vec<Finding>,
+    warnings: Vec<TableFinding>,
     more: More,
 }
 
@@ -165,7 +165,7 @@ pub fn check_table<M: MoreFindings>(
     alloc: Global,
     name: &Text,
     bytes: &[u8],
-) -> Result<Checked, OutOfMemory>
+) -> Result<TableCheck, OutOfMemory>
     ensures checked { IfOk result (λ own. own ≡ checked name.now bytes.now own.more) }
     ensures more { IfOk result (λ own. IsMoreOf M.finds (table_of bytes.now) bytes.now own.more) }
 {
@@ -175,7 +175,7 @@ pub fn check_table<M: MoreFindings>(
         warnings,
         more,
     } = facts_of::<M>(alloc, bytes)?;
-    Ok(Checked {
+    Ok(TableCheck {
         name: name.try_copy()?,
         rows,
         faults: Items::new(faults),

@@ -5,7 +5,7 @@ ghost use Rattle.std.specs.Io.KnownBytes.{Appends};
 ghost use Rattle.wh_table_check.specs.Checks.{AreChecked, is_good, status_of};
 ghost use Rattle.wh_table_check.specs.Texts.{checked_as, good_count, report_as};
 
-use crate::checking::{Checked, MoreFindings, check_table};
+use crate::checking::{MoreFindings, TableCheck, check_table};
 use crate::texts::{checked_as, is_good, totals_as};
 use std::alloc::{AllocError, Global};
 use std::io::Write;
@@ -23,7 +23,7 @@ pub struct TableFile {
 }
 
 /// Returns how many tables are good.
-fn good_count(files: &[Checked]) -> usize
+fn good_count(files: &[TableCheck]) -> usize
     ensures { result ≡ good_count files.now }
 {
     let mut count = 0;
@@ -36,14 +36,14 @@ fn good_count(files: &[Checked]) -> usize
 }
 
 /// Returns whether each table is good.
-fn are_good(files: &[Checked]) -> bool
+fn are_good(files: &[TableCheck]) -> bool
     ensures { result ≡ list_all is_good files.now }
 {
     files.iter().all(|own| is_good(own))
 }
 
 /// Returns the status of a check: 0 if each table is good, and else 1. Warnings don't change it.
-pub fn status_of(files: &[Checked]) -> u8
+pub fn status_of(files: &[TableCheck]) -> u8
     ensures { result ≡ status_of files.now }
 {
     if are_good(files) { 0 } else { 1 }
@@ -53,7 +53,7 @@ pub fn status_of(files: &[Checked]) -> u8
 fn check_files<M: MoreFindings>(
     alloc: Global,
     files: &[TableFile],
-) -> Result<Vec<Checked>, OutOfMemory>
+) -> Result<Vec<TableCheck>, OutOfMemory>
     ensures { IfOk result (λ all. AreChecked M.finds files.now all.items) }
 {
     let mut all = Vec::new(alloc);
@@ -65,7 +65,7 @@ fn check_files<M: MoreFindings>(
 }
 
 /// Returns the report of these files without the totals.
-fn all_as(alloc: Global, files: &[Checked], format: Format) -> Result<String, AllocError>
+fn all_as(alloc: Global, files: &[TableCheck], format: Format) -> Result<String, AllocError>
     ensures { IfOk result (λ text. string_bytes text ≡ flat_map (checked_as format) files.now) }
 {
     let mut text = String::new(alloc);
@@ -77,7 +77,7 @@ fn all_as(alloc: Global, files: &[Checked], format: Format) -> Result<String, Al
 }
 
 /// Returns the report of these files.
-fn report_as(alloc: Global, files: &[Checked], format: Format) -> Result<String, AllocError>
+fn report_as(alloc: Global, files: &[TableCheck], format: Format) -> Result<String, AllocError>
     ensures { IfOk result (λ text. string_bytes text ≡ report_as format files.now) }
 {
     let mut text = all_as(alloc, files, format)?;
@@ -97,7 +97,7 @@ fn report_as(alloc: Global, files: &[Checked], format: Format) -> Result<String,
 /// `OutOfMemory`.
 pub fn write_checked<O: Write>(
     alloc: Global,
-    files: &[Checked],
+    files: &[TableCheck],
     format: Format,
     writer: &mut O,
 ) -> Result<(), CommandFault>
@@ -122,7 +122,7 @@ pub fn check_command<M: MoreFindings, O: Write>(
     files: &[TableFile],
     format: Format,
     writer: &mut O,
-) -> Result<Vec<Checked>, CommandFault>
+) -> Result<Vec<TableCheck>, CommandFault>
     ensures checked { IfOk result (λ all. AreChecked M.finds files.now all.items) }
     ensures written { IfOk result (λ all.
         Appends (O.contents writer.old) (O.contents writer.new) (report_as format all.items)) }

@@ -8,7 +8,7 @@ use wh_table_text::{TableFault, fault_text};
 
 /// A fault of a table, or a warning.
 #[derive(Drop)]
-pub struct Finding {
+pub struct TableFinding {
     /// The row that it is about, counted from 1. `None` if it is about the whole table.
     pub row: Option<u64>,
     /// Its text, which begins with `row N: ` if it is about a row.
@@ -26,10 +26,10 @@ fn row_of(fault: TableFault) -> Option<u64>
 }
 
 /// Returns a fault of a table, as a finding.
-fn fault_finding(alloc: Global, fault: TableFault) -> Result<Finding, OutOfMemory>
+fn fault_finding(alloc: Global, fault: TableFault) -> Result<TableFinding, OutOfMemory>
     ensures { IfOk result (λ finding. finding ≡ fault_finding fault) }
 {
-    Ok(Finding {
+    Ok(TableFinding {
         row: row_of(fault),
         text: fault_text(alloc, fault)?,
     })
@@ -39,7 +39,7 @@ fn fault_finding(alloc: Global, fault: TableFault) -> Result<Finding, OutOfMemor
 pub(crate) fn fault_findings(
     alloc: Global,
     faults: Vec<TableFault>,
-) -> Result<Vec<Finding>, OutOfMemory>
+) -> Result<Vec<TableFinding>, OutOfMemory>
     ensures { IfOk result (λ findings. findings.items ≡ map fault_finding faults.items) }
 {
     let mut findings = Vec::new(alloc);
@@ -56,10 +56,10 @@ pub(crate) fn finding_at(
     row: u64,
     words: &str,
     name: &str,
-) -> Result<Finding, OutOfMemory>
+) -> Result<TableFinding, OutOfMemory>
     ensures { IfOk result (λ finding. finding ≡ finding_at row words.now name.now) }
 {
-    Ok(Finding {
+    Ok(TableFinding {
         row: Some(row),
         text: Text::new(format!(in alloc; "row {row}: {words}{name}")?),
     })

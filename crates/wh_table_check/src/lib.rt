@@ -8,8 +8,8 @@ mod finding;
 mod texts;
 mod warning;
 
-pub use checking::{Checked, More, MoreFindings, NoMore, RowPath, check_table};
+pub use checking::{More, MoreFindings, NoMore, RowPath, TableCheck, check_table};
 pub use commands::{TableFile, check_command, status_of, write_checked};
-pub use finding::Finding;
+pub use finding::TableFinding;
 pub use texts::{is_good, verdict_word};
 pub use warning::warnings;

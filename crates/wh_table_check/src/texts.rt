@@ -6,21 +6,21 @@ ghost use Rattle.wh_table_check.specs.Texts.{finding_line, finding_lines, verdic
 ghost use Rattle.wh_table_check.specs.Texts.{row_member, finding_object, after_commas, finding_list};
 ghost use Rattle.wh_table_check.specs.Texts.{object_head, list_member, checked_object, checked_as, totals_as};
 
-use crate::checking::Checked;
-use crate::finding::Finding;
+use crate::checking::TableCheck;
+use crate::finding::TableFinding;
 use std::alloc::{AllocError, Global};
 use wh_console::Format;
 use wh_tester::{EscapedName, Shown};
 
 /// Returns whether a table has no fault, and its further findings leave it good.
-pub fn is_good(own: &Checked) -> bool
+pub fn is_good(own: &TableCheck) -> bool
     ensures { result ≡ is_good own.now }
 {
     own.faults.get().is_empty() && own.more.good
 }
 
 /// Returns the word for a table: `ok` if it is good, and else `fault`.
-pub fn verdict_word(own: &Checked) -> &'static str
+pub fn verdict_word(own: &TableCheck) -> &'static str
     ensures { result.now ≡ verdict_word own.now }
 {
     if is_good(own) { "ok" } else { "fault" }
@@ -31,7 +31,7 @@ fn finding_line(
     alloc: Global,
     name: &str,
     words: &str,
-    found: &Finding,
+    found: &TableFinding,
 ) -> Result<String, AllocError>
     ensures { IfOk result (λ text. string_bytes text ≡ finding_line name.now words.now found.now) }
 {
@@ -45,7 +45,7 @@ fn finding_lines(
     alloc: Global,
     name: &str,
     words: &str,
-    list: &[Finding],
+    list: &[TableFinding],
 ) -> Result<String, AllocError>
     ensures { IfOk result (λ text. string_bytes text ≡ finding_lines name.now words.now list.now) }
 {
@@ -58,7 +58,7 @@ fn finding_lines(
 }
 
 /// Returns the line of a table that breaks no rule.
-fn rows_line(alloc: Global, own: &Checked) -> Result<String, AllocError>
+fn rows_line(alloc: Global, own: &TableCheck) -> Result<String, AllocError>
     ensures { IfOk result (λ text. string_bytes text ≡ rows_line own.now) }
 {
     let name = Shown(own.name.get());
@@ -68,7 +68,7 @@ fn rows_line(alloc: Global, own: &Checked) -> Result<String, AllocError>
 }
 
 /// Returns the line of a table that breaks no rule, or the lines of the faults.
-fn verdict_lines(alloc: Global, own: &Checked) -> Result<String, AllocError>
+fn verdict_lines(alloc: Global, own: &TableCheck) -> Result<String, AllocError>
     ensures { IfOk result (λ text. string_bytes text ≡ verdict_lines own.now) }
 {
     if own.faults.get().is_empty() {
@@ -79,7 +79,7 @@ fn verdict_lines(alloc: Global, own: &Checked) -> Result<String, AllocError>
 }
 
 /// Returns the lines of a file.
-fn checked_text(alloc: Global, own: &Checked) -> Result<String, AllocError>
+fn checked_text(alloc: Global, own: &TableCheck) -> Result<String, AllocError>
     ensures { IfOk result (λ text. string_bytes text ≡ checked_text own.now) }
 {
     let mut text = verdict_lines(alloc, own)?;
@@ -100,7 +100,7 @@ fn row_member(alloc: Global, row: Option<u64>) -> Result<String, AllocError>
 }
 
 /// Returns the object of a finding.
-fn finding_object(alloc: Global, found: &Finding) -> Result<String, AllocError>
+fn finding_object(alloc: Global, found: &TableFinding) -> Result<String, AllocError>
     ensures { IfOk result (λ text. string_bytes text ≡ finding_object found.now) }
 {
     let row = row_member(alloc, found.row)?;
@@ -109,7 +109,7 @@ fn finding_object(alloc: Global, found: &Finding) -> Result<String, AllocError>
 }
 
 /// Returns the objects of findings, each with a comma before it.
-fn after_commas(alloc: Global, list: &[Finding]) -> Result<String, AllocError>
+fn after_commas(alloc: Global, list: &[TableFinding]) -> Result<String, AllocError>
     ensures { IfOk result (λ text. string_bytes text ≡ after_commas list.now) }
 {
     let mut text = String::new(alloc);
@@ -122,7 +122,7 @@ fn after_commas(alloc: Global, list: &[Finding]) -> Result<String, AllocError>
 }
 
 /// Returns the objects of findings, separated by commas.
-fn finding_list(alloc: Global, list: &[Finding]) -> Result<String, AllocError>
+fn finding_list(alloc: Global, list: &[TableFinding]) -> Result<String, AllocError>
     ensures { IfOk result (λ text. string_bytes text ≡ finding_list list.now) }
 {
     let [first, others @ ..] = list else {
@@ -135,7 +135,7 @@ fn finding_list(alloc: Global, list: &[Finding]) -> Result<String, AllocError>
 }
 
 /// Returns the beginning of the object of a file: its name, its verdict, and its number of rows.
-fn object_head(alloc: Global, own: &Checked) -> Result<String, AllocError>
+fn object_head(alloc: Global, own: &TableCheck) -> Result<String, AllocError>
     ensures { IfOk result (λ text. string_bytes text ≡ object_head own.now) }
 {
     let name = EscapedName(own.name.get());
@@ -145,7 +145,7 @@ fn object_head(alloc: Global, own: &Checked) -> Result<String, AllocError>
 }
 
 /// Returns a list of findings, as a member after others.
-fn list_member(alloc: Global, key: &str, list: &[Finding]) -> Result<String, AllocError>
+fn list_member(alloc: Global, key: &str, list: &[TableFinding]) -> Result<String, AllocError>
     ensures { IfOk result (λ text. string_bytes text ≡ list_member key.now list.now) }
 {
     let list = finding_list(alloc, list)?;
@@ -153,7 +153,7 @@ fn list_member(alloc: Global, key: &str, list: &[Finding]) -> Result<String, All
 }
 
 /// Returns the object of a file, on a line.
-fn checked_object(alloc: Global, own: &Checked) -> Result<String, AllocError>
+fn checked_object(alloc: Global, own: &TableCheck) -> Result<String, AllocError>
     ensures { IfOk result (λ text. string_bytes text ≡ checked_object own.now) }
 {
     let mut text = object_head(alloc, own)?;
@@ -167,7 +167,11 @@ fn checked_object(alloc: Global, own: &Checked) -> Result<String, AllocError>
 }
 
 /// Returns a file's part of the report.
-pub(crate) fn checked_as(alloc: Global, own: &Checked, format: Format) -> Result<String, AllocError>
+pub(crate) fn checked_as(
+    alloc: Global,
+    own: &TableCheck,
+    format: Format,
+) -> Result<String, AllocError>
     ensures { IfOk result (λ text. string_bytes text ≡ checked_as format own.now) }
 {
     match format {

@@ -4,7 +4,7 @@ ghost use Rattle.std.specs.List.{flat_map};
 ghost use Rattle.wh_table_check.specs.Warnings.{ends_activity, fires, is_of_child, awaits, is_awaited, opened, unawaited};
 ghost use Rattle.wh_table_check.specs.Warnings.{leads_out, has_way_out, goes_on, stuck, row_warnings, warnings};
 
-use crate::finding::{Finding, finding_at};
+use crate::finding::{TableFinding, finding_at};
 use std::alloc::Global;
 use wh_events::{OutOfMemory, Text};
 use wh_row_rules::{OwnedRow, has_state, some_closes, text_eq};
@@ -71,7 +71,7 @@ fn is_awaited(template: &CommandTemplate<Text>, rows: &[OwnedRow]) -> bool
 
 /// Returns the words of the warning for a command that starts something that no row waits for, and
 /// its id.
-fn opened(template: &CommandTemplate<Text>) -> Option<(&'static str, &Text)>
+fn opening_words(template: &CommandTemplate<Text>) -> Option<(&'static str, &Text)>
     ensures { option_map (λ said. (said.0.now, said.1.now)) result ≡ opened template.now }
 {
     match template {
@@ -83,15 +83,15 @@ fn opened(template: &CommandTemplate<Text>) -> Option<(&'static str, &Text)>
 }
 
 /// Returns the warning for a command of the row of this number, if there is one.
-fn unawaited(
+fn unawaited_warning(
     alloc: Global,
     number: u64,
     rows: &[OwnedRow],
     template: &CommandTemplate<Text>,
-) -> Result<Option<Finding>, OutOfMemory>
+) -> Result<Option<TableFinding>, OutOfMemory>
     ensures { IfOk result (λ found. option_to_list found ≡ unawaited number rows.now template.now) }
 {
-    match opened(template) {
+    match opening_words(template) {
         Some((words, id)) => {
             if is_awaited(template, rows) {
                 Ok(None)
@@ -135,12 +135,12 @@ fn goes_on(place: usize, rows: &[OwnedRow], row: &OwnedRow) -> bool
 }
 
 /// Returns the warning for a row, if it is the first one for a state that no row leads out of.
-fn stuck(
+fn stuck_warning(
     alloc: Global,
     place: usize,
     rows: &[OwnedRow],
     row: &OwnedRow,
-) -> Result<Option<Finding>, OutOfMemory>
+) -> Result<Option<TableFinding>, OutOfMemory>
     requires { place < length rows.now }
     ensures { IfOk result (λ found. option_to_list found ≡ stuck place rows.now row.now) }
 {
@@ -152,7 +152,7 @@ fn stuck(
 }
 
 /// Adds a warning, if there is one.
-fn add(found: &mut Vec<Finding>, one: Option<Finding>) -> Result<(), OutOfMemory>
+fn add(found: &mut Vec<TableFinding>, one: Option<TableFinding>) -> Result<(), OutOfMemory>
     ensures { OnOk result (found.new.items ≡ found.old.items ++ option_to_list one) }
 {
     if let Some(one) = one {
@@ -164,7 +164,7 @@ fn add(found: &mut Vec<Finding>, one: Option<Finding>) -> Result<(), OutOfMemory
 /// Adds the warnings for the commands of the row of this number.
 fn add_unawaited(
     alloc: Global,
-    found: &mut Vec<Finding>,
+    found: &mut Vec<TableFinding>,
     number: u64,
     rows: &[OwnedRow],
     gives: &[CommandTemplate<Text>],
@@ -172,7 +172,7 @@ fn add_unawaited(
     ensures { OnOk result (found.new.items ≡ found.old.items ++ flat_map (unawaited number rows.now) gives.now) }
 {
     for template in gives {
-        let one = unawaited(alloc, number, rows, template)?;
+        let one = unawaited_warning(alloc, number, rows, template)?;
         add(found, one)?;
     }
     Ok(())
@@ -181,7 +181,7 @@ fn add_unawaited(
 /// Adds the warnings for a row; `place` rows come before it.
 fn add_row(
     alloc: Global,
-    found: &mut Vec<Finding>,
+    found: &mut Vec<TableFinding>,
     place: usize,
     rows: &[OwnedRow],
     row: &OwnedRow,
@@ -189,7 +189,7 @@ fn add_row(
     requires { place < length rows.now }
     ensures { OnOk result (found.new.items ≡ found.old.items ++ row_warnings rows.now place row.now) }
 {
-    let one = stuck(alloc, place, rows, row)?;
+    let one = stuck_warning(alloc, place, rows, row)?;
     add(found, one)?;
     add_unawaited(alloc, found, place as u64 + 1, rows, row.gives.get())
 }
@@ -197,7 +197,7 @@ fn add_row(
 /// Returns the warnings for a table without a fault, row by row: for each state that no row leads
 /// out of, at the first row for it, and for each activity, timer and child that a row starts and no
 /// row of the table waits for. `OutOfMemory` if there is no memory for the list.
-pub fn warnings(alloc: Global, rows: &[OwnedRow]) -> Result<Vec<Finding>, OutOfMemory>
+pub fn warnings(alloc: Global, rows: &[OwnedRow]) -> Result<Vec<TableFinding>, OutOfMemory>
     ensures { IfOk result (λ found. found.items ≡ warnings rows.now) }
 {
     let mut found = Vec::new(alloc);

@@ -1,27 +1,27 @@
 -- What the commands of tables wrote, one step after another.
-use Rattle.std.proofs.Common.{◌≡◌, ◌∙◌, ℕ, List, [], ◌∷◌, ◌++◌, sym, ap, subst}
-use Rattle.std.specs.Prelude.{Bool, false, Option, Result, Ok, Err, IfOk}
+use Rattle.std.proofs.Common.{◌≡◌, ◌∙◌, ℕ, List, [], ◌∷◌, ◌++◌, ap, subst}
+use Rattle.std.specs.Prelude.{Bool, false, Option, Result, Ok, Err, IfOk, string_bytes}
 use Rattle.std.specs.Io.KnownBytes.{Keeps}
 use Rattle.std.specs.List.{AllZip}
-use Rattle.wh_console.proofs.Printing.{printed_kept}
 use Rattle.wh_console.specs.Consoles.{ConsoleView, IsQuiet, Printed}
+use Rattle.wh_console.specs.declared.files.Input.{Input}
 use Rattle.wh_console.specs.declared.format.Format.{Format}
-use Rattle.wh_diagnostics.specs.Printing.{status_with}
+use Rattle.wh_diagnostics.proofs.Printed.{text_printed}
+use Rattle.wh_diagnostics.specs.Listings.{lacks_files}
+use Rattle.wh_diagnostics.specs.Printing.{HasPrinted, status_with}
+use Rattle.wh_diagnostics.specs.Readings.{Gives}
 use Rattle.wh_diagnostics.specs.declared.failures.Failure.{Failure}
+use Rattle.wh_file_faults.specs.Faults.{File}
 use Rattle.wh_file_faults.specs.declared.command_fault.CommandFault.{CommandFault}
-use Rattle.wh_files.specs.Inputs.{IsCalled, IsOf, IsReadFrom, IsSingle}
-use Rattle.wh_files.specs.declared.Input.{Input}
 use Rattle.wh_html.specs.Html.{bytes}
-use Rattle.wh_inputs.specs.Listings.{AreListed, is_by_path, lacks_files}
-use Rattle.wh_inputs.specs.Readings.{Gives}
 use Rattle.wh_table_check.specs.Checks.{AreChecked, IsChecked, status_of}
 use Rattle.wh_table_check.specs.Texts.{report_as}
-use Rattle.wh_table_check.specs.declared.checking.Checked.{Checked}
+use Rattle.wh_table_check.specs.declared.checking.TableCheck.{TableCheck}
 use Rattle.wh_table_check.specs.declared.commands.TableFile.{TableFile}
-use Rattle.wh_table_commands.specs.Checks.{Finds, HasChecked, HasCheckedAll, HasCheckedPaths}
-use Rattle.wh_table_commands.specs.Files.{IsTableAt, IsTableOf}
-use Rattle.wh_table_commands.specs.Pictures.{HasDrawn, HasDrawnPath}
-use Rattle.wh_table_commands.specs.Trials.{HasTried, HasTriedPath, IsScenario}
+use Rattle.wh_table_commands.specs.Checks.{Finds, HasChecked}
+use Rattle.wh_table_commands.specs.Files.{IsTableOf, table_of}
+use Rattle.wh_table_commands.specs.Pictures.{HasDrawn}
+use Rattle.wh_table_commands.specs.Trials.{HasTried, IsScenario}
 use Rattle.wh_table_picture.specs.Drawings.{drawing_of}
 use Rattle.wh_table_picture.specs.Pages.{page_html}
 use Rattle.wh_table_picture.specs.declared.drawing.Drawing.{Drawing}
@@ -38,93 +38,80 @@ zip_more R [] (b ∷ ys) x y h r = absurd h
 zip_more R (a ∷ xs) [] x y h r = absurd h
 zip_more R (a ∷ xs) (b ∷ ys) x y h r = (h.0, zip_more R xs ys x y h.1 r)
 
--- the report of a check was printed and flushed
-pub check_ended : (finds : Finds) (files : List TableFile) (format : Format) (lacks : Bool) (old first new : ConsoleView) (all seen : List Checked) (answer : Result ℕ CommandFault) (given own status : ℕ)
-    → AreChecked finds files all → Printed old first (report_as format all)
-    → IsQuiet first new → Keeps first.output new.output
-    → seen ≡ all → given ≡ status_of seen → answer ≡ Ok given → answer ≡ Ok own → status ≡ status_with lacks own
-    → HasChecked finds files format lacks old new status
-check_ended finds files format lacks old first new all seen answer given own status checked printed quiet kept same is_given made is_own is_status =
-    let one : given ≡ own = cc in
-    record {
-      all = all;
-      checked = checked;
-      printed = printed_kept old first new (report_as format all) printed quiet kept;
-      ends = is_status ∙ ap (status_with lacks) (sym one ∙ is_given ∙ ap status_of same);
-    }
+-- the report of a check was printed
+abbrev pub IsReport : Finds → List TableFile → Format → (lacks : Bool) → (old new : ConsoleView) → ℕ → Type 0
+IsReport finds files format lacks old new status =
+    (all : List TableCheck) × AreChecked finds files all
+    × HasPrinted (report_as format all) (status_with lacks (status_of all)) old new status
+
+pub files_checked : (finds : Finds) (files : List TableFile) (format : Format) (lacks : Bool) (old new : ConsoleView) (all : List TableCheck) (result : Result ℕ Failure)
+    → AreChecked finds files all → IfOk result (HasPrinted (report_as format all) (status_with lacks (status_of all)) old new)
+    → IfOk result (IsReport finds files format lacks old new)
+files_checked finds files format lacks old new all (Ok status) checked printed = (all, checked, printed)
+files_checked finds files format lacks old new all (Err failure) checked printed = tt
+
+report_read : (gives : Gives) (finds : Finds) (format : Format) (inputs : List Input) (left_out : Bool) (files : List TableFile) (old new : ConsoleView) (status : ℕ)
+    → AllZip (IsTableOf gives) inputs files → IsReport finds files format (lacks_files left_out false inputs) old new status
+    → HasChecked gives finds format inputs left_out old new status
+report_read gives finds format inputs left_out files old new status read own =
+    record { files = files; read = read; all = own.0; checked = own.1; printed = own.2 }
 
 -- files that inputs were read as were checked
-pub checked_all : (gives : Gives) (finds : Finds) (inputs : List Input) (files seen : List TableFile) (format : Format) (lacks : Bool) (old new : ConsoleView) (answer : Result ℕ Failure)
-    → AllZip (IsTableOf gives) inputs files → seen ≡ files → IfOk answer (HasChecked finds seen format lacks old new)
-    → IfOk answer (HasCheckedAll gives finds inputs format lacks old new)
-checked_all gives finds inputs files seen format lacks old new (Ok status) read same h = record {
-  files = files;
-  read = read;
-  checked = subst (λ l. HasChecked finds l format lacks old new status) same h;
-}
-checked_all gives finds inputs files seen format lacks old new (Err failure) read same h = tt
+pub inputs_checked : (gives : Gives) (finds : Finds) (format : Format) (inputs : List Input) (left_out lacks : Bool) (files seen : List TableFile) (old new : ConsoleView) (result : Result ℕ Failure)
+    → AllZip (IsTableOf gives) inputs files → seen ≡ files → lacks ≡ lacks_files left_out false inputs
+    → IfOk result (IsReport finds seen format lacks old new)
+    → IfOk result (HasChecked gives finds format inputs left_out old new)
+inputs_checked gives finds format inputs left_out lacks files seen old new (Ok status) read same is own =
+    report_read gives finds format inputs left_out files old new status read
+    (subst (λ l. IsReport finds l format (lacks_files left_out false inputs) old new status) same
+    (subst (λ l. IsReport finds seen format l old new status) is own))
+inputs_checked gives finds format inputs left_out lacks files seen old new (Err failure) read same is own = tt
 
--- the inputs of paths were checked
-pub checked_paths : (finds : Finds) (first : List ℕ) (others : List (List ℕ)) (format : Format) (left_out lacks : Bool) (inputs : List Input) (old between new : ConsoleView) (answer : Result ℕ Failure)
-    → AreListed (is_by_path others) (first ∷ others) inputs left_out old between
-    → lacks ≡ lacks_files left_out false inputs
-    → IfOk answer (HasCheckedAll IsReadFrom finds inputs format lacks between new)
-    → IfOk answer (HasCheckedPaths finds first others format old new)
-checked_paths finds first others format left_out lacks inputs old between new (Ok status) listed same h = record {
-  inputs = inputs;
-  left_out = left_out;
-  between = between;
-  listed = listed;
-  checked = subst (λ l. HasCheckedAll IsReadFrom finds inputs format l between new status) same h;
+drawn_as : (finds : Finds) (file : File) (table : TableFile) (drawing : Drawing) (old new : ConsoleView) (status : ℕ)
+    → table ≡ table_of file → drawing ≡ drawing_of table drawing.checked → IsChecked finds table drawing.checked
+    → HasPrinted (bytes (page_html drawing)) (status_of (drawing.checked ∷ [])) old new status
+    → HasDrawn finds file old new status
+drawn_as finds file table drawing old new status same is checked printed = record {
+  own = drawing.checked;
+  checked = subst (λ t. IsChecked finds t drawing.checked) same checked;
+  printed = subst (λ d. HasPrinted (bytes (page_html d)) (status_of (drawing.checked ∷ [])) old new status)
+      (is ∙ ap (λ t. drawing_of t drawing.checked) same) printed;
 }
-checked_paths finds first others format left_out lacks inputs old between new (Err failure) listed same h = tt
 
--- the page of a table was printed and flushed
-pub picture_ended : (finds : Finds) (file : TableFile) (old first new : ConsoleView) (drawing : Drawing) (result : Result ℕ Failure) (answer : Result ℕ CommandFault) (given : ℕ)
-    → drawing ≡ drawing_of file drawing.checked → IsChecked finds file drawing.checked
-    → Printed old first (bytes (page_html drawing)) → IsQuiet first new → Keeps first.output new.output
-    → given ≡ status_of (drawing.checked ∷ []) → answer ≡ Ok given → IfOk result (λ status. answer ≡ Ok status)
+-- the page of a table was printed
+pub table_drawn : (finds : Finds) (file : File) (table : TableFile) (drawing : Drawing) (old new : ConsoleView) (result : Result ℕ Failure)
+    → table ≡ table_of file → drawing ≡ drawing_of table drawing.checked → IsChecked finds table drawing.checked
+    → IfOk result (HasPrinted (bytes (page_html drawing)) (status_of (drawing.checked ∷ [])) old new)
     → IfOk result (HasDrawn finds file old new)
-picture_ended finds file old first new drawing (Ok status) answer given is checked printed quiet kept is_given made is_status =
-    let same : given ≡ status = cc in
-    record {
-      own = drawing.checked;
-      checked = checked;
-      printed = subst (λ d. Printed old new (bytes (page_html d))) is (printed_kept old first new (bytes (page_html drawing)) printed quiet kept);
-      ends = sym same ∙ is_given;
-    }
-picture_ended finds file old first new drawing (Err failure) answer given is checked printed quiet kept is_given made is_status = tt
+table_drawn finds file table drawing old new (Ok status) same is checked printed =
+    drawn_as finds file table drawing old new status same is checked printed
+table_drawn finds file table drawing old new (Err failure) same is checked printed = tt
 
--- the file at a path was read as a table
-pub table_at : (path : List ℕ) (input : Input) (file : TableFile)
-    → IsCalled false input → IsOf path input.origin → IsSingle input.origin → IsTableOf IsReadFrom input file → IsTableAt path file
-table_at path input file called from single read =
-    record { input = input; found = record { called = called; from = from; single = single }; read = read }
+-- the result of a trial was printed
+pub table_tried : (gives : Gives) (path : List ℕ) (given : Option (List ℕ)) (file : File) (scenario seen : List ℕ) (old new : ConsoleView) (result : Result ℕ Failure)
+    → IsScenario gives path given scenario → seen ≡ scenario
+    → IfOk result (HasPrinted (trial_text (string_bytes file.0) (trial file.1.items seen)) (trial_status (trial file.1.items seen)) old new)
+    → IfOk result (HasTried gives path given file old new)
+table_tried gives path given file scenario seen old new (Ok status) found same printed = record {
+  scenario = scenario;
+  found = found;
+  printed = subst (λ s. HasPrinted (trial_text (string_bytes file.0) (trial file.1.items s)) (trial_status (trial file.1.items s)) old new status)
+      same printed;
+}
+table_tried gives path given file scenario seen old new (Err failure) found same printed = tt
 
--- the file at a path was drawn
-pub drawn_path : (finds : Finds) (path : List ℕ) (file : TableFile) (old new : ConsoleView) (answer : Result ℕ Failure)
-    → IsTableAt path file → IfOk answer (HasDrawn finds file old new) → IfOk answer (HasDrawnPath finds path old new)
-drawn_path finds path file old new (Ok status) read h = record { file = file; read = read; drawn = h }
-drawn_path finds path file old new (Err failure) read h = tt
+abbrev mk-ok : ℕ → Result ℕ CommandFault
+mk-ok status = Ok status
 
--- the result of a trial was printed and flushed
-pub trial_ended : (file : TableFile) (scenario : List ℕ) (old first new : ConsoleView) (own : Trial) (result : Result ℕ Failure) (answer : Result ℕ CommandFault) (given : ℕ)
-    → own ≡ trial file.bytes scenario → Printed old first (trial_text file.name own)
-    → IsQuiet first new → Keeps first.output new.output
-    → given ≡ trial_status own → answer ≡ Ok given → IfOk result (λ status. answer ≡ Ok status)
-    → IfOk result (HasTried file scenario old new)
-trial_ended file scenario old first new own (Ok status) answer given is printed quiet kept is_given made is_status =
-    let same : given ≡ status = cc in
-    record {
-      printed = subst (λ t. Printed old new (trial_text file.name t)) is (printed_kept old first new (trial_text file.name own) printed quiet kept);
-      ends = sym same ∙ is_given ∙ ap trial_status is;
-    }
-trial_ended file scenario old first new own (Err failure) answer given is printed quiet kept is_given made is_status = tt
-
--- the file at a path was tried
-pub tried_path : (path : List ℕ) (given : Option (List ℕ)) (file : TableFile) (scenario : List ℕ) (old new : ConsoleView) (answer : Result ℕ Failure)
-    → IsTableAt path file → IsScenario path given scenario
-    → IfOk answer (HasTried file scenario old new) → IfOk answer (HasTriedPath path given old new)
-tried_path path given file scenario old new (Ok status) read found h =
-    record { file = file; read = read; scenario = scenario; found = found; tried = h }
-tried_path path given file scenario old new (Err failure) read found h = tt
+-- what came of the trial of a file was printed and flushed
+pub trial_printed : (name table scenario name_seen table_seen : List ℕ) (own : Trial) (old first new : ConsoleView) (given : ℕ) (result : Result ℕ Failure)
+    → name_seen ≡ name → table_seen ≡ table → own ≡ trial table_seen scenario → Printed old first (trial_text name_seen own)
+    → given ≡ trial_status own → IsQuiet first new → Keeps first.output new.output
+    → IfOk result (λ status. mk-ok given ≡ Ok status)
+    → IfOk result (HasPrinted (trial_text name (trial table scenario)) (trial_status (trial table scenario)) old new)
+trial_printed name table scenario name_seen table_seen own old first new given result named same is printed ends quiet kept out =
+    let tried = is ∙ ap (λ t. trial t scenario) same in
+    text_printed (trial_text name (trial table scenario)) (trial_status (trial table scenario)) old first new (mk-ok given) result
+    (subst (λ n. Printed old first (trial_text n (trial table scenario))) named
+    (subst (λ t. Printed old first (trial_text name_seen t)) tried printed))
+    (ends ∙ ap trial_status tried) quiet kept out

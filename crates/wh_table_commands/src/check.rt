@@ -1,25 +1,23 @@
 //! The command `check`.
 
-ghost use Rattle.std.specs.Prelude.{◌≡◌, ◌≢◌, Err, IfErr, IfOk};
-ghost use Rattle.std.specs.Io.KnownBytes.{Keeps};
+ghost use Rattle.std.specs.Prelude.{◌≡◌, Err, IfErr, IfOk, List};
 ghost use Rattle.wh_console.specs.Consoles.{IsQuiet, Printed};
-ghost use Rattle.wh_table_check.specs.Checks.{AreChecked};
+ghost use Rattle.wh_diagnostics.specs.Failures.{IsWriteFailure};
+ghost use Rattle.wh_diagnostics.specs.Printing.{HasPrinted, IsRefused, status_with};
+ghost use Rattle.wh_table_check.specs.Checks.{AreChecked, status_of};
 ghost use Rattle.wh_table_check.specs.Texts.{report_as};
-ghost use Rattle.wh_table_commands.specs.Checks.{HasChecked, HasCheckedAll, HasCheckedPaths};
-ghost use Rattle.wh_table_commands.specs.Checks.{HasNotCheckedAll, HasNotCheckedPaths};
-ghost use Rattle.wh_table_commands.specs.Refusals.{IsWriteFailure};
+ghost use Rattle.wh_table_check.specs.declared.checking.TableCheck.{TableCheck as CheckView};
+ghost use Rattle.wh_table_commands.specs.Checks.{HasChecked, HasCheckedPaths, HasNotChecked, HasNotCheckedPaths};
 
 use crate::files::table_files;
 use std::alloc::Global;
 use std::io::Write;
 use std::rt::Runtime;
 use wh_console::{Console, Format, Outlet};
-use wh_diagnostics::{Failure, flushed, status_with};
+use wh_diagnostics::{Failure, InputReader, Listed, all_inputs, flush_answer, status_with};
 use wh_events::Text;
 use wh_file_faults::CommandFault;
-use wh_files::Input;
-use wh_inputs::{InputReader, all_inputs};
-use wh_table_check::{Checked, MoreFindings, TableFile, check_command, status_of};
+use wh_table_check::{MoreFindings, TableCheck, TableFile, check_command, status_of};
 
 /// Checks the tables in these files, and writes the report.
 fn print_check<M: MoreFindings, O: Write, E: Write>(
@@ -27,7 +25,7 @@ fn print_check<M: MoreFindings, O: Write, E: Write>(
     files: &[TableFile],
     format: Format,
     console: &mut Console<'_, O, E>,
-) -> Result<Vec<Checked>, CommandFault>
+) -> Result<Vec<TableCheck>, CommandFault>
     ensures checked { IfOk result (λ all. AreChecked M.finds files.now all.items) }
     ensures printed { IfOk result (λ all. Printed console.old console.new (report_as format all.items)) }
     ensures quiet { IsQuiet console.old console.new }
@@ -45,33 +43,33 @@ fn check_files<M: MoreFindings, O: Write, E: Write>(
     lacks: bool,
     console: &mut Console<'_, O, E>,
 ) -> Result<u8, Failure>
-    ensures checked { IfOk result (HasChecked M.finds files.now format lacks console.old console.new) }
-    ensures quiet { IsQuiet console.old console.new }
-    ensures unwritten { IfErr result (λ failure. failure ≢ Failure.Output
-        → Keeps console.old.output console.new.output) }
+    ensures checked { IfOk result (λ status. (all : List CheckView) × AreChecked M.finds files.now all
+        × HasPrinted (report_as format all) (status_with lacks (status_of all)) console.old console.new status) }
+    ensures refused { IfErr result (IsRefused console.old console.new) }
     ensures why { IfErr result IsWriteFailure }
 {
     let checked = match print_check::<M, O, E>(alloc, files, format, console) {
         Ok(checked) => checked,
-        Err(fault) => return flushed(Err(fault), console),
+        Err(fault) => return flush_answer(Err(fault), console),
     };
-    let status = flushed(Ok(status_of(checked.as_slice())), console)?;
-    Ok(status_with(lacks, status))
+    let status = status_with(lacks, status_of(checked.as_slice()));
+    flush_answer(Ok(status), console)
 }
 
-/// Reads the inputs as files, and checks their tables.
+/// Reads what was listed as files, and checks their tables.
 fn check_inputs<M: MoreFindings, R: InputReader + AllocGlobal, O: Write, E: Write>(
     rt: &R,
-    inputs: Vec<Input>,
+    listed: Listed,
     format: Format,
-    lacks: bool,
     console: &mut Console<'_, O, E>,
 ) -> Result<u8, Failure>
-    ensures checked { IfOk result
-        (HasCheckedAll R.gives M.finds inputs.items format lacks console.old console.new) }
-    ensures stopped { IfErr result (HasNotCheckedAll R.gives inputs.items console.old console.new) }
+    ensures checked { IfOk result (HasChecked R.gives M.finds format listed.inputs.items listed.left_out
+        console.old console.new) }
+    ensures stopped { IfErr result
+        (HasNotChecked R.gives listed.inputs.items listed.left_out console.old console.new) }
 {
-    let files = table_files(rt, inputs)?;
+    let lacks = listed.lacks_files(false);
+    let files = table_files(rt, listed.inputs)?;
     check_files::<M, O, E>(rt.alloc(), files.as_slice(), format, lacks, console)
 }
 
@@ -90,10 +88,10 @@ pub fn check_paths<M: MoreFindings, R: Runtime + AllocGlobal, O: Write, E: Write
     format: Format,
     console: &mut Console<'_, O, E>,
 ) -> Result<u8, Failure>
-    ensures checked { IfOk result (HasCheckedPaths M.finds first more.items format console.old console.new) }
+    ensures checked { IfOk result
+        (HasCheckedPaths M.finds format first more.items console.old console.new) }
     ensures stopped { IfErr result (HasNotCheckedPaths first more.items console.old console.new) }
 {
     let listed = all_inputs(rt, first, more, console)?;
-    let lacks = listed.lacks_files(false);
-    check_inputs::<M, R, O, E>(rt, listed.inputs, format, lacks, console)
+    check_inputs::<M, R, O, E>(rt, listed, format, console)
 }

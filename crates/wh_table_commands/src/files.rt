@@ -1,26 +1,33 @@
 //! Reads files of tables.
 
-ghost use Rattle.std.specs.Prelude.{IfErr, IfOk};
+ghost use Rattle.std.specs.Prelude.{◌≡◌, IfErr, IfOk};
 ghost use Rattle.std.specs.List.{AllZip};
 ghost use Rattle.wh_diagnostics.specs.Failures.{IsReadFailure};
-ghost use Rattle.wh_table_commands.specs.Files.{IsTableOf};
+ghost use Rattle.wh_table_commands.specs.Files.{IsTableOf, table_of};
 
-use wh_diagnostics::Failure;
+use wh_console::Input;
+use wh_diagnostics::{Failure, InputReader, file_from};
 use wh_events::{Items, Text};
-use wh_files::Input;
-use wh_inputs::{InputReader, file_from};
 use wh_table_check::TableFile;
 
+/// A file as that of a table.
+pub(crate) fn table_of(file: (String, Vec<u8>)) -> TableFile
+    ensures { result ≡ table_of file }
+{
+    let (name, bytes) = file;
+    TableFile {
+        name: Text::new(name),
+        bytes: Items::new(bytes),
+    }
+}
+
 /// Reads an input as the file of a table.
-pub(crate) fn table_file<R: InputReader>(rt: &R, input: Input) -> Result<TableFile, Failure>
+fn table_file<R: InputReader>(rt: &R, input: Input) -> Result<TableFile, Failure>
     ensures read { IfOk result (IsTableOf R.gives input) }
     ensures why { IfErr result IsReadFailure }
 {
-    let (name, bytes) = file_from(rt, input)?;
-    Ok(TableFile {
-        name: Text::new(name),
-        bytes: Items::new(bytes),
-    })
+    let file = file_from(rt, input)?;
+    Ok(table_of(file))
 }
 
 /// Reads inputs as the files of tables, in their order.

@@ -1,12 +1,14 @@
-//! The commands for workflows that are tables in files: `check`, `check --html` and `try`. Each
-//! writes its output, reports problems, and returns its status.
+//! The commands for workflows that are tables in files: `check`, with what it says of promises,
+//! `check --html` and `try`. Each writes its output, reports problems, and returns its status.
 #![tactic(auto)]
 
 mod check;
 mod files;
 mod picture;
+mod promises;
 mod trial;
 
 pub use check::check_paths;
 pub use picture::picture_path;
+pub use promises::Promises;
 pub use trial::try_path;

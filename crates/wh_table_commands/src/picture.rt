@@ -1,25 +1,24 @@
 //! The command `check --html`.
 
-ghost use Rattle.std.specs.Prelude.{◌≡◌, ◌≢◌, ◌∷◌, [], Err, IfErr, IfOk};
-ghost use Rattle.std.specs.Io.KnownBytes.{Keeps};
+ghost use Rattle.std.specs.Prelude.{◌≡◌, ◌∷◌, [], Err, IfErr, IfOk};
 ghost use Rattle.wh_console.specs.Consoles.{IsQuiet, Printed};
+ghost use Rattle.wh_diagnostics.specs.Failures.{IsWriteFailure};
+ghost use Rattle.wh_diagnostics.specs.Files.{HasCarriedOut, IsNotCarriedOut};
+ghost use Rattle.wh_diagnostics.specs.Printing.{IsRefused};
 ghost use Rattle.wh_html.specs.Html.{bytes};
 ghost use Rattle.wh_table_check.specs.Checks.{IsChecked, status_of};
-ghost use Rattle.wh_table_commands.specs.Pictures.{HasDrawn, HasDrawnPath};
-ghost use Rattle.wh_table_commands.specs.Refusals.{IsUndrawnPath, IsWriteFailure};
+ghost use Rattle.wh_table_commands.specs.Pictures.{HasDrawn};
 ghost use Rattle.wh_table_picture.specs.Drawings.{drawing_of};
 ghost use Rattle.wh_table_picture.specs.Pages.{page_html};
 
-use crate::files::table_file;
+use crate::files::table_of;
 use std::alloc::Global;
 use std::io::Write;
-use std::rt::Runtime;
-use std::slice;
+use std::{io, slice};
 use wh_console::{Console, Outlet};
-use wh_diagnostics::{Failure, flushed};
+use wh_diagnostics::{Failure, InputReader, file_at, flush_answer};
 use wh_events::Text;
 use wh_file_faults::CommandFault;
-use wh_inputs::input_of;
 use wh_table_check::{MoreFindings, TableFile, status_of};
 use wh_table_picture::{Drawing, picture_command};
 
@@ -48,20 +47,19 @@ fn picture_status(drawing: &Drawing) -> u8
 /// Checks the table in a file, writes its page, and returns the status after the output is flushed.
 fn draw<M: MoreFindings, O: Write, E: Write>(
     alloc: Global,
-    file: &TableFile,
+    file: (String, Vec<u8>),
     console: &mut Console<'_, O, E>,
 ) -> Result<u8, Failure>
-    ensures drawn { IfOk result (HasDrawn M.finds file.now console.old console.new) }
-    ensures quiet { IsQuiet console.old console.new }
-    ensures unwritten { IfErr result (λ failure. failure ≢ Failure.Output
-        → Keeps console.old.output console.new.output) }
+    ensures drawn { IfOk result (HasDrawn M.finds file console.old console.new) }
+    ensures refused { IfErr result (IsRefused console.old console.new) }
     ensures why { IfErr result IsWriteFailure }
 {
-    let drawing = match print_picture::<M, O, E>(alloc, file, console) {
+    let table = table_of(file);
+    let drawing = match print_picture::<M, O, E>(alloc, &table, console) {
         Ok(drawing) => drawing,
-        Err(fault) => return flushed(Err(fault), console),
+        Err(fault) => return flush_answer(Err(fault), console),
     };
-    flushed(Ok(picture_status(&drawing)), console)
+    flush_answer(Ok(picture_status(&drawing)), console)
 }
 
 /// Checks the table in the file at this path, and writes an HTML page with the findings and a
@@ -71,18 +69,15 @@ fn draw<M: MoreFindings, O: Write, E: Write>(
 /// `Unreadable` if the file can't be read. `Output` if the page can't be written. Other than
 /// `OutOfMemory` there is no failure but these. After a failure nothing was reported, and nothing
 /// was written unless it is `Output`.
-pub fn picture_path<M: MoreFindings, R: Runtime + AllocGlobal, O: Write, E: Write>(
+pub fn picture_path<M: MoreFindings, R: InputReader + io::Input + AllocGlobal, O: Write, E: Write>(
     rt: &R,
     path: Text,
     console: &mut Console<'_, O, E>,
 ) -> Result<u8, Failure>
-    ensures drawn { IfOk result (HasDrawnPath M.finds path console.old console.new) }
-    ensures quiet { IfErr result (λ _. IsQuiet console.old console.new) }
-    ensures unwritten { IfErr result (λ failure. failure ≢ Failure.Output
-        → Keeps console.old.output console.new.output) }
-    ensures why { IfErr result (IsUndrawnPath path) }
+    ensures drawn { IfOk result (HasCarriedOut R.gives (HasDrawn M.finds) path console.old console.new) }
+    ensures refused { IfErr result (IsRefused console.old console.new) }
+    ensures why { IfErr result (IsNotCarriedOut R.gives (λ file. IsWriteFailure) path) }
 {
-    let input = input_of(rt, path)?;
-    let file = table_file(rt, input)?;
-    draw::<M, O, E>(rt.alloc(), &file, console)
+    let file = file_at(rt, path)?;
+    draw::<M, O, E>(rt.alloc(), file, console)
 }

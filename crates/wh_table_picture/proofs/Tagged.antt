@@ -6,7 +6,7 @@ use Rattle.std.proofs.lemmas.List.{length-map}
 use Rattle.std.specs.List.{list_all}
 use Rattle.wh_html.specs.Html.{Html, markup}
 use Rattle.wh_html.proofs.Alike.{Alike, is_inner, last, texts, both, none, mark, word, text, num, each-alike}
-use Rattle.wh_table_picture.specs.declared.layout.Line.{Line}
+use Rattle.wh_table_picture.specs.declared.layout.PictureRow.{PictureRow}
 use Rattle.wh_table_picture.specs.declared.layout.StateMark.{StateMark}
 use Rattle.wh_table_picture.specs.declared.layout.StateMark.TheVariants.{Unmarked, Passed, Last}
 use Rattle.wh_table_picture.specs.Pictures.{mark_class, name_class, is_taken, row_class, end_class, conditions_html, gives_html, marks_html}
@@ -62,23 +62,23 @@ way-alike place None = none
 way-alike place (Some target) =
     mark _ (num _ (mark _ (num _ (mark _ (num _ (mark _ (num _ (mark _ (tip-alike target)))))))))
 
-state-alike : (line : Line) → Alike false false (state_html line) (state_html (without_words line))
+state-alike : (line : PictureRow) → Alike false false (state_html line) (state_html (without_words line))
 state-alike line =
     mark _ (num _ (mark _ (word _ (name-inner line.begins line.mark) (mark _ (num _ (mark _ (text _ _ _ (last _))))))))
 
-job-alike : (line : Line) → Alike false false (job_html line) (job_html (without_words line))
+job-alike : (line : PictureRow) → Alike false false (job_html line) (job_html (without_words line))
 job-alike line = mark _ (num _ (mark _ (text _ _ _ (both (conditions-alike line.conditions) (last _)))))
 
-commands-alike : (line : Line) → Alike false false (commands_html line) (commands_html (without_words line))
+commands-alike : (line : PictureRow) → Alike false false (commands_html line) (commands_html (without_words line))
 commands-alike line =
     mark _ (num _ (mark _ (both (gives-alike line.gives) (both (marks-alike line.marks) (last _)))))
 
-row-alike : (line : Line) → Alike false false (row_html [] line) (row_html [] (without_words line))
+row-alike : (line : PictureRow) → Alike false false (row_html [] line) (row_html [] (without_words line))
 row-alike line =
     mark _ (word _ (row-inner (line.taken || is_taken [] line.number)) (mark _ (both (state-alike line) (both (job-alike line) (both (commands-alike line)
     (both (edge-alike line.place line.begins) (both (way-alike line.place line.way) (last _))))))))
 
-pub marked-alike : (lines : List Line) (ended : Bool) → Alike false false (marked_html lines ended) (marked_html (map without_words lines) ended)
+pub marked-alike : (lines : List PictureRow) (ended : Bool) → Alike false false (marked_html lines ended) (marked_html (map without_words lines) ended)
 unfolding marked_html
 marked-alike lines ended =
     rw (length-map lines without_words)

@@ -8,10 +8,10 @@ use Rattle.wh_rows.specs.Tables.{Row}
 use Rattle.wh_row_rules.specs.declared.owned.OwnedTable.{OwnedTable}
 use Rattle.wh_table_text.specs.declared.fault.TableFault.{TableFault}
 use Rattle.wh_table_text.specs.Reading.{table_of}
-use Rattle.wh_table_check.specs.declared.checking.Checked.{Checked}
+use Rattle.wh_table_check.specs.declared.checking.TableCheck.{TableCheck}
 use Rattle.wh_table_check.specs.declared.commands.TableFile.{TableFile}
 use Rattle.wh_table_picture.specs.declared.drawing.Drawing.{Drawing}
-use Rattle.wh_table_picture.specs.declared.layout.Line.{Line}
+use Rattle.wh_table_picture.specs.declared.layout.PictureRow.{PictureRow}
 use Rattle.wh_table_picture.specs.Cells.{title_of}
 use Rattle.wh_table_picture.specs.Layout.{lines_of}
 
@@ -35,7 +35,7 @@ title_by (Ok d) = title_of d
 title_by (Err fault) = []
 
 -- the rows of a table, of which a text has the words, if it is JSON
-abbrev pub lines_by : List Row → Result Data ReadFault → List Line
+abbrev pub lines_by : List Row → Result Data ReadFault → List PictureRow
 lines_by rows (Ok d) = lines_of rows (row_values d)
 lines_by rows (Err fault) = []
 
@@ -45,11 +45,11 @@ table_rows (Ok table) = table.rows
 table_rows (Err fault) = []
 
 -- the rows of the table that a text is
-abbrev pub table_lines : (bytes : List ℕ) → List Line
+abbrev pub table_lines : (bytes : List ℕ) → List PictureRow
 table_lines bytes = lines_by (table_rows (table_of bytes)) (document_within bytes)
 
 -- what the page of the table in a file shows, beside what is found of it
-abbrev pub drawing_of : TableFile → Checked → Drawing
+abbrev pub drawing_of : TableFile → TableCheck → Drawing
 drawing_of file checked = record {
   checked = checked;
   title = title_by (document_within file.bytes);

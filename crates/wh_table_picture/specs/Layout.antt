@@ -4,7 +4,7 @@ use Rattle.serde_json.specs.Data.{Data}
 use Rattle.wh_rows.specs.Tables.{Row}
 use Rattle.wh_rows.specs.Rows.{some_closes}
 use Rattle.wh_table_text.specs.Numbered.{numbered}
-use Rattle.wh_table_picture.specs.declared.layout.Line.{Line}
+use Rattle.wh_table_picture.specs.declared.layout.PictureRow.{PictureRow}
 use Rattle.wh_table_picture.specs.declared.layout.StateMark.TheVariants.{Unmarked}
 use Rattle.wh_table_picture.specs.Cells.{words_at}
 
@@ -30,7 +30,7 @@ leads_to rows row =
     else Some (first_of row.next rows)
 
 -- a row before which stand so many, with its words
-abbrev pub line_of : List Row → ℕ → Row → Data → Line
+abbrev pub line_of : List Row → ℕ → Row → Data → PictureRow
 line_of rows place row d = record {
   place = place;
   number = place + 1;
@@ -47,14 +47,14 @@ line_of rows place row d = record {
 }
 
 -- the row at a place, if there is one
-abbrev pub line_by : List Row → ℕ → Option Row → Data → List Line
+abbrev pub line_by : List Row → ℕ → Option Row → Data → List PictureRow
 line_by rows place None d = []
 line_by rows place (Some row) d = line_of rows place row d ∷ []
 
 -- the row at a place
-abbrev pub line_at : List Row → ℕ → Data → List Line
+abbrev pub line_at : List Row → ℕ → Data → List PictureRow
 line_at rows place d = line_by rows place (slice_get rows place) d
 
 -- the rows of a table
-abbrev pub lines_of : List Row → List Data → List Line
+abbrev pub lines_of : List Row → List Data → List PictureRow
 lines_of rows ds = numbered (line_at rows) 0 ds

@@ -1,7 +1,7 @@
 -- What is marked in the picture of a table.
 use Rattle.std.specs.Prelude.{ℕ, List, Option, Some, None, map, bytes_eq, Bool, false, if◌then◌else◌}
 use Rattle.std.specs.List.{list_any}
-use Rattle.wh_table_picture.specs.declared.layout.Line.{Line}
+use Rattle.wh_table_picture.specs.declared.layout.PictureRow.{PictureRow}
 use Rattle.wh_table_picture.specs.declared.layout.StateMark.{StateMark}
 use Rattle.wh_table_picture.specs.declared.layout.StateMark.TheVariants.{Unmarked, Passed, Last}
 use Rattle.wh_table_picture.specs.declared.marks.Marks.{Marks}
@@ -20,12 +20,12 @@ state_mark marks state =
     else Unmarked
 
 -- a row with its marks
-abbrev pub marked_line : Marks → Line → Line
+abbrev pub marked_line : Marks → PictureRow → PictureRow
 marked_line marks line = record line {
   taken = has_row marks.rows line.number;
   mark = state_mark marks line.state;
 }
 
 -- rows with theirs
-abbrev pub marked : Marks → List Line → List Line
+abbrev pub marked : Marks → List PictureRow → List PictureRow
 marked marks lines = map (marked_line marks) lines

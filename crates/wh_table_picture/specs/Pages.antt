@@ -1,18 +1,18 @@
 -- The page of a table: what is found of it, the picture, and its rows.
 use Rattle.std.specs.Prelude.{ℕ, if◌then◌else◌, List, length, nat_eq, codes}
 use Rattle.wh_html.specs.Html.{Html, nothing, markup, plain, hole, ◌⊕◌, number, each}
-use Rattle.wh_table_check.specs.declared.checking.Checked.{Checked}
+use Rattle.wh_table_check.specs.declared.checking.TableCheck.{TableCheck}
 use Rattle.wh_table_check.specs.declared.checking.RowPath.{RowPath}
-use Rattle.wh_table_check.specs.declared.finding.Finding.{Finding}
+use Rattle.wh_table_check.specs.declared.finding.TableFinding.{TableFinding}
 use Rattle.wh_table_check.specs.Checks.{is_good}
 use Rattle.wh_table_check.specs.Texts.{verdict_word}
 use Rattle.wh_table_picture.specs.declared.drawing.Drawing.{Drawing}
-use Rattle.wh_table_picture.specs.declared.layout.Line.{Line}
+use Rattle.wh_table_picture.specs.declared.layout.PictureRow.{PictureRow}
 use Rattle.wh_table_picture.specs.declared.style.TheConstants.{STYLE_OF_PAGE, STYLE_OF_ROWS, STYLE_OF_PRINT}
 use Rattle.wh_table_picture.specs.Pictures.{legend_html, picture_html}
 
 -- how a verdict stands: that of a good table, or of another one
-abbrev pub verdict_class : Checked → List ℕ
+abbrev pub verdict_class : TableCheck → List ℕ
 verdict_class own = if is_good own then codes "ok" else codes "bad"
 
 -- what stands before the body: the title of the page and the style sheet
@@ -40,14 +40,14 @@ front_html drawing =
     ⊕ markup (codes "</p>\n</header>\n<main>\n")
 
 -- a finding, as an item of a list
-abbrev pub item_html : Finding → Html
+abbrev pub item_html : TableFinding → Html
 item_html found =
     markup (codes "<li>")
     ⊕ hole 600 found.text
     ⊕ markup (codes "</li>\n")
 
 -- a list of findings under its heading, if there are some
-abbrev pub items_html : List ℕ → List Finding → Html
+abbrev pub items_html : List ℕ → List TableFinding → Html
 items_html heading list =
     if nat_eq (length list) 0 then nothing
     else markup (codes "<section>\n<h2>") ⊕ plain heading ⊕ markup (codes "</h2>\n<ul>\n") ⊕ each item_html list
@@ -64,26 +64,26 @@ abbrev pub cell_html : List ℕ → Html
 cell_html words = markup (codes "<td>") ⊕ hole 2000 words ⊕ markup (codes "</td>")
 
 -- what a row is for: its number, its state, its job and its conditions
-abbrev pub when_html : Line → Html
+abbrev pub when_html : PictureRow → Html
 when_html line =
     markup (codes "<th scope=\"row\">") ⊕ number line.number ⊕ markup (codes "</th>") ⊕ cell_html line.state
     ⊕ cell_html line.job ⊕ cell_html line.conditions
 
 -- a row of the table
-abbrev pub table_row_html : Line → Html
+abbrev pub table_row_html : PictureRow → Html
 table_row_html line =
     markup (codes "<tr>") ⊕ when_html line ⊕ cell_html line.gives ⊕ cell_html line.next ⊕ cell_html line.marks
     ⊕ markup (codes "</tr>\n")
 
 -- the rows as a table
-abbrev pub table_html : List Line → Html
+abbrev pub table_html : List PictureRow → Html
 table_html lines =
     markup (codes "<section>\n<h2 id=\"rows\">Rows</h2>\n<div class=\"scroll\" tabindex=\"0\" role=\"region\" aria-labelledby=\"rows\">\n<table>\n<thead><tr><th scope=\"col\">Row</th><th scope=\"col\">State</th><th scope=\"col\">Job</th><th scope=\"col\">If</th><th scope=\"col\">Gives</th><th scope=\"col\">Then</th><th scope=\"col\">Marks</th></tr></thead>\n<tbody>\n")
     ⊕ each table_row_html lines
     ⊕ markup (codes "</tbody>\n</table>\n</div>\n</section>\n")
 
 -- what is marked, the picture and the rows, if there are some
-abbrev pub states_html : List RowPath → List Line → Html
+abbrev pub states_html : List RowPath → List PictureRow → Html
 states_html paths lines = if nat_eq (length lines) 0 then nothing else legend_html paths ⊕ picture_html paths lines ⊕ table_html lines
 
 -- the page

@@ -2,7 +2,7 @@
 use Rattle.std.specs.Prelude.{ℕ, ◌+◌, ◌*◌, ◌%◌, min, Bool, false, ◌||◌, if◌then◌else◌, Option, Some, None, List, [], ◌∷◌, length, nat_eq, codes}
 use Rattle.wh_html.specs.Html.{Html, nothing, markup, plain, hole, ◌⊕◌, number, each}
 use Rattle.wh_table_check.specs.declared.checking.RowPath.{RowPath}
-use Rattle.wh_table_picture.specs.declared.layout.Line.{Line}
+use Rattle.wh_table_picture.specs.declared.layout.PictureRow.{PictureRow}
 use Rattle.wh_table_picture.specs.declared.layout.StateMark.{StateMark}
 use Rattle.wh_table_picture.specs.declared.layout.StateMark.TheVariants.{Unmarked, Passed, Last}
 use Rattle.wh_table_picture.specs.Layout.{has_row}
@@ -83,7 +83,7 @@ way_html place None = nothing
 way_html place (Some target) = way_to_html place target
 
 -- the box of a row, with the name of its state
-abbrev pub state_html : Line → Html
+abbrev pub state_html : PictureRow → Html
 state_html line =
     markup (codes "<rect class=\"box\" x=\"10\" y=\"") ⊕ number (top_of line.place)
     ⊕ markup (codes "\" width=\"680\" height=\"46\"/><text class=\"") ⊕ plain (name_class line.begins line.mark)
@@ -91,19 +91,19 @@ state_html line =
     ⊕ markup (codes "</text>")
 
 -- the job of a row, with its conditions
-abbrev pub job_html : Line → Html
+abbrev pub job_html : PictureRow → Html
 job_html line =
     markup (codes "<text class=\"job\" x=\"180\" y=\"") ⊕ number (top_of line.place + 20) ⊕ markup (codes "\">")
     ⊕ hole 40 line.job ⊕ conditions_html line.conditions ⊕ markup (codes "</text>")
 
 -- the commands of a row, with its marks
-abbrev pub commands_html : Line → Html
+abbrev pub commands_html : PictureRow → Html
 commands_html line =
     markup (codes "<text class=\"gives\" x=\"180\" y=\"") ⊕ number (top_of line.place + 37) ⊕ markup (codes "\">")
     ⊕ gives_html line.gives ⊕ marks_html line.marks ⊕ markup (codes "</text>")
 
 -- a row of the picture, marked where it was taken, and where a path takes it
-abbrev pub row_html : List RowPath → Line → Html
+abbrev pub row_html : List RowPath → PictureRow → Html
 row_html paths line =
     markup (codes "<g class=\"") ⊕ plain (row_class (line.taken || is_taken paths line.number)) ⊕ markup (codes "\">")
     ⊕ state_html line ⊕ job_html line ⊕ commands_html line ⊕ edge_html line.place line.begins
@@ -126,7 +126,7 @@ legend_html paths =
     ⊕ each path_html paths ⊕ markup (codes "</ul>\n</section>\n")
 
 -- the rows of a picture and the end, which may be the last
-abbrev pub drawn_html : List RowPath → List Line → (ended : Bool) → Html
+abbrev pub drawn_html : List RowPath → List PictureRow → (ended : Bool) → Html
 drawn_html paths lines ended =
     each (row_html paths) lines
     ⊕ markup (codes "<rect class=\"")
@@ -138,7 +138,7 @@ drawn_html paths lines ended =
     ⊕ markup (codes "\">closed</text>\n</svg>\n</div>\n")
 
 -- the picture of rows
-unfoldable pub picture_html : List RowPath → List Line → Html
+unfoldable pub picture_html : List RowPath → List PictureRow → Html
 picture_html paths lines =
     markup (codes "<section>\n<h2 id=\"states\">States</h2>\n<div class=\"scroll picture\" tabindex=\"0\" role=\"region\" aria-labelledby=\"states\">\n<svg viewBox=\"0 0 1000 ")
     ⊕ number (top_of (length lines) + 54)
@@ -149,7 +149,7 @@ picture_html paths lines =
     ⊕ markup (codes "</section>\n")
 
 -- the picture of rows some of which are marked, for the heading `way` of another page
-unfoldable pub marked_html : List Line → (ended : Bool) → Html
+unfoldable pub marked_html : List PictureRow → (ended : Bool) → Html
 marked_html lines ended =
     markup (codes "<div class=\"scroll picture\" tabindex=\"0\" role=\"region\" aria-labelledby=\"way\">\n<svg class=\"marked\" viewBox=\"0 0 1000 ")
     ⊕ number (top_of (length lines) + 54)

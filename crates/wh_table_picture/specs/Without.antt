@@ -1,6 +1,6 @@
 -- The rows of a picture without their words.
 use Rattle.std.specs.Prelude.{ℕ, List, [], ◌∷◌, codes}
-use Rattle.wh_table_picture.specs.declared.layout.Line.{Line}
+use Rattle.wh_table_picture.specs.declared.layout.PictureRow.{PictureRow}
 
 -- a letter in place of a text that is not empty
 abbrev pub letter_for : List ℕ → List ℕ
@@ -8,7 +8,7 @@ letter_for [] = []
 letter_for (b ∷ bs) = codes "x"
 
 -- a row without its words: a letter for those that are left out if there are none
-abbrev pub without_words : Line → Line
+abbrev pub without_words : PictureRow → PictureRow
 without_words line = record line {
   state = [];
   job = [];

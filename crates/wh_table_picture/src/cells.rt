@@ -31,7 +31,7 @@ fn add_words(text: &mut String, values: &[Value]) -> Result<(), AllocError>
 }
 
 /// The texts of a list, with a semicolon between each and the next.
-fn joined(alloc: Global, values: &[Value]) -> Result<String, AllocError>
+fn join_texts(alloc: Global, values: &[Value]) -> Result<String, AllocError>
     ensures { IfOk result (λ text. string_bytes text ≡ joined (map view values.now)) }
 {
     let [first, others @ ..] = values else {
@@ -47,7 +47,7 @@ fn listed_words(alloc: Global, value: &Value) -> Result<String, AllocError>
     ensures { IfOk result (λ text. string_bytes text ≡ listed_words (view value.now)) }
 {
     match list_in(value) {
-        Some(values) => joined(alloc, values),
+        Some(values) => join_texts(alloc, values),
         None => String::from_str(alloc, text_or_none(value)),
     }
 }

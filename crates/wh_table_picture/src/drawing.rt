@@ -6,13 +6,13 @@ ghost use Rattle.wh_table_picture.specs.Drawings.{row_values, lines_by, title_by
 ghost use Rattle.wh_table_check.specs.Checks.{IsChecked};
 
 use crate::cells::title_of;
-use crate::layout::{Line, lines_of};
+use crate::layout::{PictureRow, lines_of};
 use serde_json::Value;
 use std::alloc::Global;
 use wh_events::{Items, OutOfMemory, Text};
 use wh_json::{ReadFault, field, list_in, read_document};
 use wh_row_rules::OwnedRow;
-use wh_table_check::{Checked, MoreFindings, TableFile, check_table};
+use wh_table_check::{MoreFindings, TableCheck, TableFile, check_table};
 use wh_table_text::{TableFault, read_table};
 use wh_workflow::text_of;
 
@@ -20,18 +20,18 @@ use wh_workflow::text_of;
 #[derive(Drop)]
 pub struct Drawing {
     /// What is found of the table.
-    pub checked: Checked,
+    pub checked: TableCheck,
     /// The text of its member `title`, if it has one.
     pub title: Text,
     /// Its rows. There are none if it breaks a rule.
-    pub lines: Items<Line>,
+    pub lines: Items<PictureRow>,
 }
 
 /// The title and the rows of a table.
 #[derive(Drop)]
 pub(crate) struct Words {
     pub(crate) title: Text,
-    pub(crate) lines: Vec<Line>,
+    pub(crate) lines: Vec<PictureRow>,
 }
 
 /// The list of rows of a value.

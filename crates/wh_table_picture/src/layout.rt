@@ -24,7 +24,7 @@ pub enum StateMark {
 
 /// A row of a table as its picture has it.
 #[derive(Drop)]
-pub struct Line {
+pub struct PictureRow {
     /// Its place among the rows, counted from 0.
     pub place: usize,
     /// Its number, counted from 1.
@@ -105,11 +105,11 @@ fn line_of(
     place: usize,
     row: &OwnedRow,
     value: &Value,
-) -> Result<Line, OutOfMemory>
+) -> Result<PictureRow, OutOfMemory>
     requires { place + 1 < 2 ^ 64 }
     ensures { IfOk result (λ line. line ≡ line_of rows.now place row.now (view value.now)) }
 {
-    Ok(Line {
+    Ok(PictureRow {
         place,
         number: place + 1,
         begins: first_of(&row.state, rows) == place,
@@ -131,7 +131,7 @@ fn line_at(
     rows: &[OwnedRow],
     place: usize,
     value: &Value,
-) -> Result<Option<Line>, OutOfMemory>
+) -> Result<Option<PictureRow>, OutOfMemory>
     requires { place + 1 < 2 ^ 64 }
     ensures { IfOk result (λ line. option_to_list line ≡ line_at rows.now place (view value.now)) }
 {
@@ -142,7 +142,7 @@ fn line_at(
 }
 
 /// Adds a row, if there is one.
-fn add(lines: &mut Vec<Line>, line: Option<Line>) -> Result<(), OutOfMemory>
+fn add(lines: &mut Vec<PictureRow>, line: Option<PictureRow>) -> Result<(), OutOfMemory>
     ensures { OnOk result (lines.new.items ≡ lines.old.items ++ option_to_list line) }
 {
     if let Some(line) = line {
@@ -156,7 +156,7 @@ pub(crate) fn lines_of(
     alloc: Global,
     rows: &[OwnedRow],
     values: &[Value],
-) -> Result<Vec<Line>, OutOfMemory>
+) -> Result<Vec<PictureRow>, OutOfMemory>
     ensures { IfOk result (λ lines. lines.items ≡ lines_of rows.now (map view values.now)) }
 {
     let mut lines = Vec::new(alloc);

@@ -13,7 +13,7 @@ mod style;
 
 pub use commands::picture_command;
 pub use drawing::{Drawing, drawing_of};
-pub use layout::{Line, StateMark};
+pub use layout::{PictureRow, StateMark};
 pub use marks::{Marks, marked_table};
 pub use page::write_page;
 pub use picture::MarkedPicture;

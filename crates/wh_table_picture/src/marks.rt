@@ -5,7 +5,7 @@ ghost use Rattle.wh_table_picture.specs.Drawings.{table_lines};
 ghost use Rattle.wh_table_picture.specs.Marking.{is_last, state_mark, marked_line, marked};
 
 use crate::drawing::{Words, table_words};
-use crate::layout::{Line, StateMark, has_row};
+use crate::layout::{PictureRow, StateMark, has_row};
 use std::alloc::Global;
 use wh_events::{Items, OutOfMemory, Text};
 
@@ -56,12 +56,12 @@ fn state_mark(marks: &Marks, name: &Text) -> StateMark
 }
 
 /// A row with its marks.
-fn marked_line(marks: &Marks, line: Line) -> Line
+fn marked_line(marks: &Marks, line: PictureRow) -> PictureRow
     ensures { result ≡ marked_line marks.now line }
 {
     let taken = has_row(marks.rows.get(), line.number);
     let mark = state_mark(marks, &line.state);
-    Line {
+    PictureRow {
         taken,
         mark,
         ..line
@@ -69,7 +69,11 @@ fn marked_line(marks: &Marks, line: Line) -> Line
 }
 
 /// Rows with their marks.
-fn marked(alloc: Global, marks: &Marks, lines: Vec<Line>) -> Result<Items<Line>, OutOfMemory>
+fn marked_rows(
+    alloc: Global,
+    marks: &Marks,
+    lines: Vec<PictureRow>,
+) -> Result<Items<PictureRow>, OutOfMemory>
     ensures { IfOk result (λ all. all ≡ marked marks.now lines.items) }
 {
     let mut all = Vec::new(alloc);
@@ -82,9 +86,13 @@ fn marked(alloc: Global, marks: &Marks, lines: Vec<Line>) -> Result<Items<Line>,
 
 /// The rows of the table that a JSON text is, with their marks; none if it is no table.
 /// `OutOfMemory` if an allocation was refused.
-pub fn marked_table(alloc: Global, bytes: &[u8], marks: &Marks) -> Result<Items<Line>, OutOfMemory>
+pub fn marked_table(
+    alloc: Global,
+    bytes: &[u8],
+    marks: &Marks,
+) -> Result<Items<PictureRow>, OutOfMemory>
     ensures { IfOk result (λ lines. lines ≡ marked marks.now (table_lines bytes.now)) }
 {
     let Words { lines, .. } = table_words(alloc, bytes)?;
-    marked(alloc, marks, lines)
+    marked_rows(alloc, marks, lines)
 }

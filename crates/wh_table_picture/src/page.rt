@@ -7,15 +7,15 @@ ghost use Rattle.wh_table_picture.specs.Pages.{cell_html, when_html, table_row_h
 ghost use Rattle.wh_table_picture.specs.Pages.{items_html, more_html, states_html, page_html};
 
 use crate::drawing::Drawing;
-use crate::layout::Line;
+use crate::layout::PictureRow;
 use crate::legend::Legend;
-use crate::picture::Picture;
+use crate::picture::TablePicture;
 use crate::style::{STYLE_OF_PAGE, STYLE_OF_PRINT, STYLE_OF_ROWS};
 use std::io::Write;
 use std::{fmt, io};
 use wh_events::Text;
 use wh_html::Escaped;
-use wh_table_check::{Checked, Finding, RowPath, is_good, verdict_word};
+use wh_table_check::{RowPath, TableCheck, TableFinding, is_good, verdict_word};
 
 /// The most characters of a name that a page shows.
 const NAME: usize = 300;
@@ -24,7 +24,7 @@ const NAME: usize = 300;
 const WORDS: usize = 2_000;
 
 /// How a verdict stands: that of a good table, or of another one.
-fn verdict_class(own: &Checked) -> &'static str
+fn verdict_class(own: &TableCheck) -> &'static str
     ensures { result.now ≡ verdict_class own.now }
 {
     if is_good(own) { "ok" } else { "bad" }
@@ -32,9 +32,9 @@ fn verdict_class(own: &Checked) -> &'static str
 
 /// What stands before the body: the title of the page and the style sheet.
 #[derive(Drop)]
-struct Head<'a>(&'a Drawing);
+struct PageHead<'a>(&'a Drawing);
 
-impl fmt::Display for Head<'_> {
+impl fmt::Display for PageHead<'_> {
     ghost output = { λ own. Some (bytes (head_html own.0.now)) };
 
     #[tactic(auto, unfolding(crate::specs::Pages::head_html))]
@@ -52,9 +52,9 @@ impl fmt::Display for Head<'_> {
 
 /// The name of the file, and the verdict.
 #[derive(Drop)]
-struct Verdict<'a>(&'a Drawing);
+struct FileVerdict<'a>(&'a Drawing);
 
-impl fmt::Display for Verdict<'_> {
+impl fmt::Display for FileVerdict<'_> {
     ghost output = { λ own. Some (bytes (verdict_html own.0.now)) };
 
     fn fmt<W: fmt::Write>(&self, f: &mut fmt::Formatter<W>) -> fmt::Result {
@@ -80,8 +80,8 @@ impl fmt::Display for Front<'_> {
     ghost output = { λ own. Some (bytes (front_html own.0.now)) };
 
     fn fmt<W: fmt::Write>(&self, f: &mut fmt::Formatter<W>) -> fmt::Result {
-        let head = Head(self.0);
-        let verdict = Verdict(self.0);
+        let head = PageHead(self.0);
+        let verdict = FileVerdict(self.0);
         let title = Escaped {
             text: &self.0.title,
             most: 600,
@@ -92,7 +92,7 @@ impl fmt::Display for Front<'_> {
 
 /// A finding, as an item of a list.
 #[derive(Drop)]
-struct Item<'a>(&'a Finding);
+struct Item<'a>(&'a TableFinding);
 
 impl fmt::Display for Item<'_> {
     ghost output = { λ own. Some (bytes (item_html own.0.now)) };
@@ -108,9 +108,9 @@ impl fmt::Display for Item<'_> {
 
 /// Findings, as items of a list.
 #[derive(Drop)]
-struct Items<'a>(&'a [Finding]);
+struct FindingItems<'a>(&'a [TableFinding]);
 
-impl fmt::Display for Items<'_> {
+impl fmt::Display for FindingItems<'_> {
     ghost output = { λ own. Some (bytes (each item_html own.0.now)) };
 
     fn fmt<W: fmt::Write>(&self, f: &mut fmt::Formatter<W>) -> fmt::Result {
@@ -124,12 +124,12 @@ impl fmt::Display for Items<'_> {
 
 /// A list of findings under its heading, if there are some.
 #[derive(Drop)]
-struct Findings<'a> {
+struct FindingList<'a> {
     heading: &'static str,
-    list: &'a [Finding],
+    list: &'a [TableFinding],
 }
 
-impl fmt::Display for Findings<'_> {
+impl fmt::Display for FindingList<'_> {
     ghost output = { λ own. Some (bytes (items_html own.heading.now own.list.now)) };
 
     fn fmt<W: fmt::Write>(&self, f: &mut fmt::Formatter<W>) -> fmt::Result {
@@ -137,7 +137,7 @@ impl fmt::Display for Findings<'_> {
             return Ok(());
         }
         let heading = self.heading;
-        let items = Items(self.list);
+        let items = FindingItems(self.list);
         write!(
             f,
             "<section>\n<h2>{heading}</h2>\n<ul>\n{items}</ul>\n</section>\n"
@@ -185,7 +185,7 @@ impl fmt::Display for Cell<'_> {
 
 /// What a row is for: its number, its state, its job and its conditions.
 #[derive(Drop)]
-struct When<'a>(&'a Line);
+struct When<'a>(&'a PictureRow);
 
 impl fmt::Display for When<'_> {
     ghost output = { λ own. Some (bytes (when_html own.0.now)) };
@@ -201,7 +201,7 @@ impl fmt::Display for When<'_> {
 
 /// A row of the table.
 #[derive(Drop)]
-struct TableRow<'a>(&'a Line);
+struct TableRow<'a>(&'a PictureRow);
 
 impl fmt::Display for TableRow<'_> {
     ghost output = { λ own. Some (bytes (table_row_html own.0.now)) };
@@ -217,7 +217,7 @@ impl fmt::Display for TableRow<'_> {
 
 /// The rows of the table.
 #[derive(Drop)]
-struct TableRows<'a>(&'a [Line]);
+struct TableRows<'a>(&'a [PictureRow]);
 
 impl fmt::Display for TableRows<'_> {
     ghost output = { λ own. Some (bytes (each table_row_html own.0.now)) };
@@ -233,9 +233,9 @@ impl fmt::Display for TableRows<'_> {
 
 /// The rows as a table.
 #[derive(Drop)]
-struct Table<'a>(&'a [Line]);
+struct RowTable<'a>(&'a [PictureRow]);
 
-impl fmt::Display for Table<'_> {
+impl fmt::Display for RowTable<'_> {
     ghost output = { λ own. Some (bytes (table_html own.0.now)) };
 
     fn fmt<W: fmt::Write>(&self, f: &mut fmt::Formatter<W>) -> fmt::Result {
@@ -251,7 +251,7 @@ impl fmt::Display for Table<'_> {
 #[derive(Drop)]
 struct States<'a> {
     paths: &'a [RowPath],
-    lines: &'a [Line],
+    lines: &'a [PictureRow],
 }
 
 impl fmt::Display for States<'_> {
@@ -262,11 +262,11 @@ impl fmt::Display for States<'_> {
             return Ok(());
         }
         let legend = Legend(self.paths);
-        let picture = Picture {
+        let picture = TablePicture {
             paths: self.paths,
             lines: self.lines,
         };
-        let table = Table(self.lines);
+        let table = RowTable(self.lines);
         write!(f, "{legend}{picture}{table}")
     }
 }
@@ -280,11 +280,11 @@ pub fn write_page<W: Write>(drawing: &Drawing, writer: &mut W) -> io::Result<()>
     ensures { OnOk result (Appends (W.contents writer.old) (W.contents writer.new) (bytes (page_html drawing.now))) }
 {
     let front = Front(drawing);
-    let faults = Findings {
+    let faults = FindingList {
         heading: "Faults",
         list: drawing.checked.faults.get(),
     };
-    let warnings = Findings {
+    let warnings = FindingList {
         heading: "Warnings",
         list: drawing.checked.warnings.get(),
     };

@@ -6,7 +6,7 @@ ghost use Rattle.wh_table_picture.specs.Pictures.{is_taken, row_class};
 ghost use Rattle.wh_table_picture.specs.Pictures.{tip_html, way_to_html, way_html, state_html, job_html, commands_html};
 ghost use Rattle.wh_table_picture.specs.Pictures.{mark_class, end_class, row_html, drawn_html, picture_html, marked_html};
 
-use crate::layout::{Line, StateMark, has_row};
+use crate::layout::{PictureRow, StateMark, has_row};
 use crate::style::{STYLE_OF_MARKS, STYLE_OF_ROWS};
 use std::fmt;
 use wh_events::Text;
@@ -116,9 +116,9 @@ impl fmt::Display for Gives<'_> {
 
 /// The marks of a row, if it has some.
 #[derive(Drop)]
-struct Marks<'a>(&'a Text);
+struct RowMarks<'a>(&'a Text);
 
-impl fmt::Display for Marks<'_> {
+impl fmt::Display for RowMarks<'_> {
     ghost output = { λ own. Some (bytes (marks_html own.0.now)) };
 
     fn fmt<W: fmt::Write>(&self, f: &mut fmt::Formatter<W>) -> fmt::Result {
@@ -175,12 +175,12 @@ impl fmt::Display for Tip {
 
 /// Where a row leads to: from its place to that place.
 #[derive(Clone, Copy)]
-struct Way {
+struct Arrow {
     place: usize,
     target: usize,
 }
 
-impl fmt::Display for Way {
+impl fmt::Display for Arrow {
     ghost output = { λ own. Some (bytes (way_to_html own.place own.target)) };
 
     fn fmt<W: fmt::Write>(&self, f: &mut fmt::Formatter<W>) -> fmt::Result {
@@ -209,7 +209,7 @@ impl fmt::Display for WayPart {
     fn fmt<W: fmt::Write>(&self, f: &mut fmt::Formatter<W>) -> fmt::Result {
         match self.target {
             Some(target) => {
-                let way = Way {
+                let way = Arrow {
                     place: self.place,
                     target,
                 };
@@ -222,9 +222,9 @@ impl fmt::Display for WayPart {
 
 /// The box of a row, with the name of its state.
 #[derive(Drop)]
-struct StateName<'a>(&'a Line);
+struct StateBox<'a>(&'a PictureRow);
 
-impl fmt::Display for StateName<'_> {
+impl fmt::Display for StateBox<'_> {
     ghost output = { λ own. Some (bytes (state_html own.0.now)) };
 
     fn fmt<W: fmt::Write>(&self, f: &mut fmt::Formatter<W>) -> fmt::Result {
@@ -244,7 +244,7 @@ impl fmt::Display for StateName<'_> {
 
 /// The job of a row, with its conditions.
 #[derive(Drop)]
-struct JobWords<'a>(&'a Line);
+struct JobWords<'a>(&'a PictureRow);
 
 impl fmt::Display for JobWords<'_> {
     ghost output = { λ own. Some (bytes (job_html own.0.now)) };
@@ -265,7 +265,7 @@ impl fmt::Display for JobWords<'_> {
 
 /// The commands of a row, with its marks.
 #[derive(Drop)]
-struct CommandWords<'a>(&'a Line);
+struct CommandWords<'a>(&'a PictureRow);
 
 impl fmt::Display for CommandWords<'_> {
     ghost output = { λ own. Some (bytes (commands_html own.0.now)) };
@@ -273,7 +273,7 @@ impl fmt::Display for CommandWords<'_> {
     fn fmt<W: fmt::Write>(&self, f: &mut fmt::Formatter<W>) -> fmt::Result {
         let bottom = top_of(self.0.place) + 37;
         let gives = Gives(&self.0.gives);
-        let marks = Marks(&self.0.marks);
+        let marks = RowMarks(&self.0.marks);
         write!(
             f,
             "<text class=\"gives\" x=\"180\" y=\"{bottom}\">{gives}{marks}</text>"
@@ -285,7 +285,7 @@ impl fmt::Display for CommandWords<'_> {
 #[derive(Drop)]
 struct RowPart<'a> {
     paths: &'a [RowPath],
-    line: &'a Line,
+    line: &'a PictureRow,
 }
 
 impl fmt::Display for RowPart<'_> {
@@ -293,7 +293,7 @@ impl fmt::Display for RowPart<'_> {
 
     fn fmt<W: fmt::Write>(&self, f: &mut fmt::Formatter<W>) -> fmt::Result {
         let class = row_class(self.line.taken || is_taken(self.paths, self.line.number));
-        let state = StateName(self.line);
+        let state = StateBox(self.line);
         let job = JobWords(self.line);
         let commands = CommandWords(self.line);
         let edge = Edge {
@@ -315,7 +315,7 @@ impl fmt::Display for RowPart<'_> {
 #[derive(Drop)]
 struct RowParts<'a> {
     paths: &'a [RowPath],
-    lines: &'a [Line],
+    lines: &'a [PictureRow],
 }
 
 impl fmt::Display for RowParts<'_> {
@@ -337,7 +337,7 @@ impl fmt::Display for RowParts<'_> {
 #[derive(Drop)]
 struct Drawn<'a> {
     paths: &'a [RowPath],
-    lines: &'a [Line],
+    lines: &'a [PictureRow],
     ended: bool,
 }
 
@@ -361,12 +361,12 @@ impl fmt::Display for Drawn<'_> {
 
 /// The picture of rows, of which those are marked that paths take.
 #[derive(Drop)]
-pub(crate) struct Picture<'a> {
+pub(crate) struct TablePicture<'a> {
     pub paths: &'a [RowPath],
-    pub lines: &'a [Line],
+    pub lines: &'a [PictureRow],
 }
 
-impl fmt::Display for Picture<'_> {
+impl fmt::Display for TablePicture<'_> {
     ghost output = { λ own. Some (bytes (picture_html own.paths.now own.lines.now)) };
 
     #[tactic(auto, unfolding(crate::specs::Pictures::picture_html))]
@@ -390,7 +390,7 @@ impl fmt::Display for Picture<'_> {
 #[derive(Drop)]
 pub struct MarkedPicture<'a> {
     /// The rows.
-    pub lines: &'a [Line],
+    pub lines: &'a [PictureRow],
     /// Whether the end is the last.
     pub ended: bool,
 }

@@ -4,18 +4,18 @@ use Rattle.std.specs.Prelude.{leb}
 use Rattle.std.proofs.lemmas.Bool.{and_parts, and_from}
 use Rattle.std.proofs.lemmas.List.{append-nil, map-append, length-map, take-append-drop, take-map, drop-map, drop-take}
 use Rattle.std.proofs.Math.Seq.{take-append_seam}
-use Rattle.wh_rows.specs.declared.row.Counts.{Counts}
+use Rattle.wh_rows.specs.declared.row.Counters.{Counters}
 use Rattle.wh_rows.specs.Tables.{Definition}
 use Rattle.wh_rows.specs.Rows.{initial}
-use Rattle.wh_promises.specs.Courses.{course}
-use Rattle.wh_promises.specs.Watches.{Turn}
-use Rattle.wh_promises.specs.Promises.{Promise, watch_of}
-use Rattle.wh_promises.specs.Deciding.{Line, Config, place, lines, steps, covered, each, all_within, are_cuts, case_of}
-use Rattle.wh_promises.proofs.Cuts.{Cuts, cuts_from}
-use Rattle.wh_promises.proofs.Turns.{both_of}
-use Rattle.wh_promises.proofs.Meant.{means_in}
-use Rattle.wh_promises.proofs.Sound.{KeepsOn, keeps_on, keeps_none, keeps_before}
-use Rattle.wh_table_promises.specs.declared.config.Config.{Config as ConfigHeld}
+use Rattle.wh_rows.specs.Courses.{course}
+use Rattle.wh_rows.specs.Watches.{Turn}
+use Rattle.wh_rows.specs.Promises.{Promise, watch_of}
+use Rattle.wh_rows.specs.Deciding.{Line, Config, place, lines, steps, covered, each, all_within, are_cuts, case_of}
+use Rattle.wh_rows.proofs.Cuts.{Cuts, cuts_from}
+use Rattle.wh_rows.proofs.Turns.{both_of}
+use Rattle.wh_rows.proofs.Meant.{means_in}
+use Rattle.wh_rows.proofs.Sound.{KeepsOn, keeps_on, keeps_none, keeps_before}
+use Rattle.wh_table_promises.specs.declared.config.Configuration.{Configuration as ConfigHeld}
 use Rattle.wh_table_promises.specs.Private.Seen.{config_seen}
 use Rattle.wh_table_promises.specs.Private.Found.{is_in, is_good, is_within_case, GoesOn, Leads, LeadsFrom}
 use Rattle.wh_table_promises.specs.Ways.{IsKeptBefore}
@@ -88,7 +88,7 @@ taken held next on =
     ∙ ap (λ n. take n (map config_seen held ++ on.0)) (sym (length-map held config_seen))
     ∙ take-append_seam (map config_seen held) on.0
 
-module _ (tops : Counts) (turns : List Turn) (budget : ℕ) (rows : List Line) where
+module _ (tops : Counters) (turns : List Turn) (budget : ℕ) (rows : List Line) where
   -- all jobs are left at first
   pub leads_all : (many : ℕ) (all : List Config) → Leads tops turns budget rows (many - 0) all → Leads tops turns budget rows many all
   leads_all many all leads =
@@ -139,7 +139,7 @@ module _ (tops : Counts) (turns : List Turn) (budget : ℕ) (rows : List Line) w
       (each_next (is_good tops turns budget rows list) (is_good tops turns budget rows next) (good_next list next on) (take from list) before)
       (subst (λ all. each (is_good tops turns budget rows next) (drop from all) ≡ true) same behind))
 
-module _ (table : Definition) (promise : Promise) (tops : Counts) (fine : Cuts table.bounds tops)
+module _ (table : Definition) (promise : Promise) (tops : Counters) (fine : Cuts table.bounds tops)
     (fit : all_within (length table.rows) tops (lines table.rows table.rows) ≡ true) where
   -- where so many jobs lead from configurations on, each but the last keeps to the budget
   leads_keep : (many : ℕ) (all : List Config)
@@ -152,7 +152,7 @@ module _ (table : Definition) (promise : Promise) (tops : Counts) (fine : Cuts t
       many (leads_keep many leads.0 leads.2)
 
 -- so fewer jobs do not break the promise
-pub kept_before : (table : Definition) (promise : Promise) (tops : Counts) (many : ℕ)
+pub kept_before : (table : Definition) (promise : Promise) (tops : Counters) (many : ℕ)
     → is_within_case (case_of table) tops ≡ true
     → LeadsFrom tops (watch_of promise).turns (watch_of promise).budget (lines table.rows table.rows) (place table.first table.rows) many
     → (jobs : ℕ) → jobs ≤ suc many → IsKeptBefore jobs table promise

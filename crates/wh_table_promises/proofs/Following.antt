@@ -6,11 +6,11 @@ use Rattle.wh_workflow.specs.declared.command.Command.{Command}
 use Rattle.wh_rows.specs.declared.row.RowsState.{RowsState}
 use Rattle.wh_rows.specs.Tables.{Definition}
 use Rattle.wh_rows.specs.Rows.{gives, after, initial, seen_by}
-use Rattle.wh_promises.specs.Courses.{course, gave}
-use Rattle.wh_promises.specs.Watches.{Turn, Standing, watched}
-use Rattle.wh_promises.specs.Promises.{Promise, KeptIn, watch_of}
-use Rattle.wh_promises.proofs.Turns.{watched_append}
-use Rattle.wh_promises.proofs.Spent.{kept_spends}
+use Rattle.wh_rows.specs.Courses.{course, gave}
+use Rattle.wh_rows.specs.Watches.{Turn, Standing, watched}
+use Rattle.wh_rows.specs.Promises.{Promise, KeptIn, watch_of}
+use Rattle.wh_rows.proofs.Turns.{watched_append}
+use Rattle.wh_rows.proofs.Spent.{kept_spends}
 use Rattle.wh_table_promises.specs.Ways.{text_given, texts_given, row_taken, rows_taken, job_read}
 use Rattle.wh_table_promises.specs.declared.ways.WayStep.{WayStep}
 use Rattle.wh_table_promises.specs.Private.Told.{told_by, given_by, through, spends}

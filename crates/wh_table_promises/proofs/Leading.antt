@@ -1,12 +1,12 @@
 -- Where the rows of a table lead, one after another.
 use Rattle.std.proofs.Common.{◌≡◌, ℕ, suc, ◌+◌, ◌<◌, Bool, true, false, ◌&&◌, List, [], ◌∷◌, ◌++◌, length, get_or, drop, refl, ap, sym, ◌∙◌, append_assoc, Option, Some, None, arith}
 use Rattle.std.proofs.Math.Seq.{drop-cons}
-use Rattle.wh_rows.specs.declared.row.Counts.{Counts}
+use Rattle.wh_rows.specs.declared.row.Counters.{Counters}
 use Rattle.wh_rows.specs.declared.row.JobPattern.TheVariants as patterns
 use Rattle.wh_rows.specs.Tables.{JobPattern}
 use Rattle.wh_rows.specs.Rules.{covers}
-use Rattle.wh_promises.specs.Watches.{Turn}
-use Rattle.wh_promises.specs.Deciding.{Line, Config, is_ready, is_among, job_turns, leads, starts}
+use Rattle.wh_rows.specs.Watches.{Turn}
+use Rattle.wh_rows.specs.Deciding.{Line, Config, is_ready, is_among, job_turns, leads, starts}
 use Rattle.wh_table_promises.specs.Private.Seen.{stand_by, started, LeadsOn}
 
 plus_one : (n : ℕ) → n + 1 ≡ suc n
@@ -17,7 +17,7 @@ pub front : {A : Type 0} → (xs : List A) (i : ℕ) (x : A) → i < length xs �
 front xs i x within is =
     drop-cons xs i x within ∙ ap (λ y. y ∷ drop (suc i) xs) (sym is) ∙ ap (λ n. x ∷ drop n xs) (sym (plus_one i))
 
-module _ (tops : Counts) (turns : List Turn) (one : Config) where
+module _ (tops : Counters) (turns : List Turn) (one : Config) where
   -- a row that is not ready leads nowhere
   pub leads_not : (row : Line) (passed : List JobPattern) (found : List Config) → is_ready row one ≡ false
       → LeadsOn tops turns one row passed passed found found

@@ -3,16 +3,16 @@ use Rattle.std.proofs.Common.{◌≡◌, ℕ, zero, suc, ◌<◌, ◌≤◌, Boo
 use Rattle.std.specs.Prelude.{leb}
 use Rattle.std.proofs.lemmas.Bool.{and_parts, and_from, or_cases}
 use Rattle.std.proofs.lemmas.Bool.Decides.{nat_tests}
-use Rattle.wh_rows.specs.declared.row.Counts.{Counts}
+use Rattle.wh_rows.specs.declared.row.Counters.{Counters}
 use Rattle.wh_rows.specs.Tables.{Definition}
-use Rattle.wh_promises.specs.Watches.{Turn}
-use Rattle.wh_promises.specs.Promises.{Promise, Promises, watch_of}
-use Rattle.wh_promises.specs.Deciding.{Line, Config, place, lines, steps, starts, covered, each, all_within, are_cuts, begun, case_of}
-use Rattle.wh_promises.proofs.Cuts.{Cuts, cuts_from}
-use Rattle.wh_promises.proofs.Turns.{both_of}
-use Rattle.wh_promises.proofs.Meant.{means}
-use Rattle.wh_promises.proofs.Sound.{IsGood, keeps_all}
-use Rattle.wh_table_promises.specs.declared.config.Config.{Config as ConfigHeld}
+use Rattle.wh_rows.specs.Watches.{Turn}
+use Rattle.wh_rows.specs.Promises.{Promise, Promises, watch_of}
+use Rattle.wh_rows.specs.Deciding.{Line, Config, place, lines, steps, starts, covered, each, all_within, are_cuts, begun, case_of}
+use Rattle.wh_rows.proofs.Cuts.{Cuts, cuts_from}
+use Rattle.wh_rows.proofs.Turns.{both_of}
+use Rattle.wh_rows.proofs.Meant.{means}
+use Rattle.wh_rows.proofs.Sound.{IsGood, keeps_all}
+use Rattle.wh_table_promises.specs.declared.config.Configuration.{Configuration as ConfigHeld}
 use Rattle.wh_table_promises.specs.Private.Seen.{config_seen}
 use Rattle.wh_table_promises.specs.Private.Found.{is_in, is_good, shows_all}
 
@@ -41,7 +41,7 @@ both_to true b first second = second
 both_to false b first second = cc
 
 -- what keeps to a budget keeps to a greater one
-module _ (tops : Counts) (turns : List Turn) (budget most : ℕ) (less : budget ≤ most) (rows : List Line) (all : List Config) where
+module _ (tops : Counters) (turns : List Turn) (budget most : ℕ) (less : budget ≤ most) (rows : List Line) (all : List Config) where
   one_within : (one : Config) → is_good tops turns budget rows all one ≡ true → is_good tops turns most rows all one ≡ true
   one_within one good =
       let parts : (leb one.watch.spent budget ≡ true) × (each (is_in all) (steps tops turns rows one) ≡ true) = and_parts _ _ good in
@@ -57,7 +57,7 @@ module _ (tops : Counts) (turns : List Turn) (budget most : ℕ) (less : budget 
       both_to (is_good tops turns most rows all one) (each (is_good tops turns most rows all) rest)
       (one_within one parts.0) (each_within rest parts.1)
 
-module _ (table : Definition) (promise : Promise) (tops : Counts) (all : List Config) where
+module _ (table : Definition) (promise : Promise) (tops : Counters) (all : List Config) where
   abbrev pub rows : List Line
   rows = lines table.rows table.rows
 

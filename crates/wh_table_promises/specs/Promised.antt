@@ -1,8 +1,8 @@
 -- The promises of a table that was read are those of the definitions.
 use Rattle.std.specs.Prelude.{List}
-use Rattle.wh_promises.specs.Courses.{Happening, Comes, Gives, Completes, Fails, Cancels, ContinuesAsNew, Closes}
+use Rattle.wh_rows.specs.Courses.{Happening, Comes, Gives, Completes, Fails, Cancels, ContinuesAsNew, Closes}
 use Rattle.wh_rows.specs.Properties.{StartsActivity, StartsChild, SendsSignal}
-use Rattle.wh_promises.specs.Promises.{Promise, at_most, only_after, never_after, between}
+use Rattle.wh_rows.specs.Promises.{Promise, at_most, only_after, never_after, between}
 use Rattle.wh_table_promises.specs.declared.promise.Happening.{Happening as HappeningRead}
 use Rattle.wh_table_promises.specs.declared.promise.Happening.TheVariants as read
 use Rattle.wh_table_promises.specs.declared.promise.TablePromise.{TablePromise}

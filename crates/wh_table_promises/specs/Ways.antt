@@ -4,14 +4,14 @@ use Rattle.wh_workflow.specs.declared.job.Job.{Job}
 use Rattle.wh_rows.specs.declared.row.RowsState.{RowsState}
 use Rattle.wh_rows.specs.Tables.{Row, Definition}
 use Rattle.wh_rows.specs.Rows.{fits, seen_by, gives, after, initial}
-use Rattle.wh_promises.specs.Courses.{course, begins}
-use Rattle.wh_promises.specs.Promises.{Promise, KeptIn, Promises}
-use Rattle.wh_scenarios.specs.JobTexts.{job_of}
-use Rattle.wh_scenarios.specs.CommandTexts.{commands_text}
+use Rattle.wh_rows.specs.Courses.{course, begins}
+use Rattle.wh_rows.specs.Promises.{Promise, KeptIn, Promises}
+use Rattle.wh_author_tools.specs.JobTexts.{job_of}
+use Rattle.wh_author_tools.specs.CommandTexts.{commands_text}
 use Rattle.wh_table_promises.specs.declared.ways.WayStep.{WayStep}
 use Rattle.wh_table_promises.specs.declared.ways.Breach.{Breach}
-use Rattle.wh_table_promises.specs.declared.deciding.Verdict.{Verdict}
-use Rattle.wh_table_promises.specs.declared.deciding.Verdict.TheVariants as verdicts
+use Rattle.wh_table_promises.specs.declared.deciding.PromiseVerdict.{PromiseVerdict}
+use Rattle.wh_table_promises.specs.declared.deciding.PromiseVerdict.TheVariants as verdicts
 
 -- the commands that a job is given, as scenarios write them
 abbrev pub text_given : Definition → RowsState → Job → List ℕ
@@ -66,7 +66,7 @@ IsBreach table promise breach =
     × (breach.is_shortest ≡ true → IsKeptBefore (length breach.way.items) table promise)
 
 -- a verdict is right: what is kept is kept whatever jobs come, and a path breaks the promise
-abbrev pub IsRight : Definition → Promise → Verdict → Type 0
+abbrev pub IsRight : Definition → Promise → PromiseVerdict → Type 0
 IsRight table promise verdicts.Kept = Promises table promise
 IsRight table promise (verdicts.Broken breach) = IsBreach table promise breach
 IsRight table promise (verdicts.NotDecided _) = Unit {0}

@@ -1,13 +1,13 @@
 //! The jobs that a search for a path tries.
-use crate::lines::Line;
+use crate::lines::IndexedRow;
 use crate::patterns::text_of;
 use crate::promise::Happening;
-use crate::watch::Turn;
+use crate::watch::WatchTurn;
 use std::alloc::{AllocError, Global};
+use wh_author_tools::job_of;
 use wh_events::{OutOfMemory, Text};
 use wh_row_rules::covers;
 use wh_rows::{JobPattern, Naming};
-use wh_scenarios::job_of;
 
 /// A job that a search tries.
 #[derive(Drop)]
@@ -17,7 +17,7 @@ pub(crate) struct Candidate<'a> {
     /// Its words in a scenario.
     pub words: Text,
     /// The rows that are for it.
-    pub lines: Vec<Line<'a>>,
+    pub lines: Vec<IndexedRow<'a>>,
 }
 
 /// The name of a run that is started with nothing.
@@ -95,8 +95,8 @@ fn is_taken(patterns: &[&JobPattern<Text>], wanted: &JobPattern<Text>) -> bool {
 /// The patterns of rows and of turns, each once.
 fn patterns_of<'a>(
     alloc: Global,
-    lines: &[Line<'a>],
-    turns: &[Turn<'a>],
+    lines: &[IndexedRow<'a>],
+    turns: &[WatchTurn<'a>],
 ) -> Result<Vec<&'a JobPattern<Text>>, OutOfMemory> {
     let mut patterns = Vec::new(alloc);
     for line in lines {
@@ -117,9 +117,9 @@ fn patterns_of<'a>(
 /// The rows that are for a job of the pattern.
 fn lines_for<'a>(
     alloc: Global,
-    lines: &[Line<'a>],
+    lines: &[IndexedRow<'a>],
     pattern: &JobPattern<Text>,
-) -> Result<Vec<Line<'a>>, OutOfMemory> {
+) -> Result<Vec<IndexedRow<'a>>, OutOfMemory> {
     let mut chosen = Vec::new(alloc);
     for line in lines {
         if covers(&line.row.job, pattern) {
@@ -133,8 +133,8 @@ fn lines_for<'a>(
 pub(crate) fn candidates_of<'a>(
     alloc: Global,
     naming: &Naming<Text>,
-    lines: &[Line<'a>],
-    turns: &[Turn<'a>],
+    lines: &[IndexedRow<'a>],
+    turns: &[WatchTurn<'a>],
 ) -> Result<Vec<Candidate<'a>>, OutOfMemory> {
     let patterns = patterns_of(alloc, lines, turns)?;
     let version = other_version(patterns.as_slice());

@@ -1,50 +1,50 @@
 //! Where a run and a watch may stand together, and where jobs lead.
 ghost use Rattle.std.specs.Prelude.{◌≡◌, ◌≤◌, ◌<◌, ◌^◌, ◌++◌, OnOk, map, option_map};
-ghost use Rattle.wh_promises.specs.Deciding.{next_place, is_ready, job_turns, starts, steps, begun};
+ghost use Rattle.wh_rows.specs.Deciding.{next_place, is_ready, job_turns, starts, steps, begun};
 ghost use Rattle.wh_table_promises.specs.Private.Seen.{turn_seen, standing_seen, line_seen, config_seen, stand_by, started, LeadsOn};
 
 use crate::counters::cut_all;
-use crate::lines::Line;
+use crate::lines::IndexedRow;
 use crate::patterns::{is_among, may_happen, must_happen};
-use crate::turning::given;
-use crate::watch::{Standing, Turn, new_standing, took};
+use crate::turning::watch_after_commands;
+use crate::watch::{WatchState, WatchTurn, new_standing, watch_after_turn};
 use std::alloc::Global;
 use wh_events::{OutOfMemory, Text};
 use wh_row_rules::covers;
-use wh_rows::{Counts, JobPattern, all_hold};
+use wh_rows::{Counters, JobPattern, all_hold};
 
 /// Where a run and a watch stand together.
 #[derive(Clone, Copy)]
-pub(crate) struct Config {
+pub(crate) struct Configuration {
     /// The number of the run's state.
     pub state: usize,
     /// Whether it is closed.
     pub closed: bool,
     /// Its counters, cut.
-    pub counts: Counts,
+    pub counts: Counters,
     /// The watch.
-    pub watch: Standing,
+    pub watch: WatchState,
 }
 
 /// What is asked of a table and a promise.
 #[derive(Clone, Copy)]
 pub(crate) struct Rules<'a> {
     /// The rows.
-    pub lines: &'a [Line<'a>],
+    pub lines: &'a [IndexedRow<'a>],
     /// Where counters are cut.
-    pub tops: Counts,
+    pub tops: Counters,
     /// The turns of the promise's watch.
-    pub turns: &'a [Turn<'a>],
+    pub turns: &'a [WatchTurn<'a>],
 }
 
 /// Where a run begins, by the number of its state.
-pub(crate) fn begun(first: usize) -> Config
+pub(crate) fn initial_configuration(first: usize) -> Configuration
     ensures { config_seen result ≡ begun first }
 {
-    Config {
+    Configuration {
         state: first,
         closed: false,
-        counts: Counts {
+        counts: Counters {
             a: 0,
             b: 0,
             c: 0,
@@ -65,7 +65,7 @@ fn next_place(next: Option<usize>, state: usize) -> usize
 }
 
 /// Whether a row fits but for the job.
-pub(crate) fn is_ready(line: &Line, one: &Config) -> bool
+pub(crate) fn is_ready(line: &IndexedRow, one: &Configuration) -> bool
     ensures { result ≡ is_ready (line_seen line.now) (config_seen one.now) }
 {
     !one.closed
@@ -74,18 +74,23 @@ pub(crate) fn is_ready(line: &Line, one: &Config) -> bool
 }
 
 /// Where a row leads, if there is one.
-pub(crate) fn stand(rules: &Rules, line: Option<&Line>, one: &Config, now: Standing) -> Config
+pub(crate) fn stand(
+    rules: &Rules,
+    line: Option<&IndexedRow>,
+    one: &Configuration,
+    now: WatchState,
+) -> Configuration
     requires { now.spent ≤ 2 ^ 62 }
     ensures { config_seen result ≡ stand_by rules.now.tops (map turn_seen rules.now.turns.now)
         (option_map (λ line. line_seen line.now) line.entry) (config_seen one.now) (standing_seen now) }
 {
     match line {
-        None => Config { watch: now, ..*one },
-        Some(line) => Config {
+        None => Configuration { watch: now, ..*one },
+        Some(line) => Configuration {
             state: next_place(line.next, one.state),
             closed: line.closes,
             counts: cut_all(rules.tops, line.row.effects.get(), one.counts),
-            watch: given(rules.turns, line.row.gives.get(), now),
+            watch: watch_after_commands(rules.turns, line.row.gives.get(), now),
         },
     }
 }
@@ -93,12 +98,12 @@ pub(crate) fn stand(rules: &Rules, line: Option<&Line>, one: &Config, now: Stand
 /// Adds where a run and its watch may stand after a job that is of the pattern `known` and of none of
 /// `passed`.
 fn job_turns(
-    found: &mut Vec<Config>,
+    found: &mut Vec<Configuration>,
     rules: &Rules,
-    line: Option<&Line>,
+    line: Option<&IndexedRow>,
     known: Option<&JobPattern<Text>>,
     passed: &[&JobPattern<Text>],
-    one: &Config,
+    one: &Configuration,
 ) -> Result<(), OutOfMemory>
     requires { one.now.watch.spent < 2 ^ 62 }
     ensures { OnOk result (map config_seen found.new.items ≡ map config_seen found.old.items
@@ -109,7 +114,7 @@ fn job_turns(
 {
     for turn in rules.turns {
         if turn.from == one.watch.at && may_happen(known, passed, turn.what) {
-            found.push(stand(rules, line, one, took(turn, one.watch)))?;
+            found.push(stand(rules, line, one, watch_after_turn(turn, one.watch)))?;
             if must_happen(known, turn.what) {
                 return Ok(());
             }
@@ -121,11 +126,11 @@ fn job_turns(
 
 /// Adds where a row may lead at a job that is of none of `passed`, and passes its job on.
 fn lead<'a>(
-    found: &mut Vec<Config>,
+    found: &mut Vec<Configuration>,
     rules: &Rules,
-    line: &Line<'a>,
+    line: &IndexedRow<'a>,
     passed: &mut Vec<&'a JobPattern<Text>>,
-    one: &Config,
+    one: &Configuration,
 ) -> Result<(), OutOfMemory>
     requires { one.now.watch.spent < 2 ^ 62 }
     ensures { OnOk result (LeadsOn rules.now.tops (map turn_seen rules.now.turns.now) (config_seen one.now)
@@ -153,9 +158,9 @@ fn lead<'a>(
 /// Adds where a job after the start may lead.
 pub(crate) fn steps(
     alloc: Global,
-    found: &mut Vec<Config>,
+    found: &mut Vec<Configuration>,
     rules: &Rules,
-    one: &Config,
+    one: &Configuration,
 ) -> Result<(), OutOfMemory>
     requires { one.now.watch.spent < 2 ^ 62 }
     ensures { OnOk result (map config_seen found.new.items ≡ map config_seen found.old.items
@@ -171,7 +176,10 @@ pub(crate) fn steps(
 }
 
 /// The row that counts at the start, if there is one.
-pub(crate) fn started<'a>(lines: &'a [Line<'a>], one: &Config) -> Option<&'a Line<'a>>
+pub(crate) fn start_row<'a>(
+    lines: &'a [IndexedRow<'a>],
+    one: &Configuration,
+) -> Option<&'a IndexedRow<'a>>
     ensures { option_map (λ line. line_seen line.now) result ≡ started (map line_seen lines.now) (config_seen one.now) }
 {
     for line in lines {
@@ -184,14 +192,14 @@ pub(crate) fn started<'a>(lines: &'a [Line<'a>], one: &Config) -> Option<&'a Lin
 
 /// Adds where the start may lead.
 pub(crate) fn starts(
-    found: &mut Vec<Config>,
+    found: &mut Vec<Configuration>,
     rules: &Rules,
-    one: &Config,
+    one: &Configuration,
 ) -> Result<(), OutOfMemory>
     requires { one.now.watch.spent < 2 ^ 62 }
     ensures { OnOk result (map config_seen found.new.items ≡ map config_seen found.old.items
         ++ starts rules.now.tops (map turn_seen rules.now.turns.now) (map line_seen rules.now.lines.now) (config_seen one.now)) }
 {
-    let line = started(rules.lines, one);
+    let line = start_row(rules.lines, one);
     job_turns(found, rules, line, Some(&JobPattern::Start), &[], one)
 }

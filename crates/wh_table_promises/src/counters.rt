@@ -1,27 +1,27 @@
 //! Counters that are cut at the greatest number that a row asks for.
 ghost use Rattle.std.specs.Prelude.{◌≡◌, map};
-ghost use Rattle.wh_promises.specs.Deciding.{cut_one, cut_all, asks_within, are_cuts};
+ghost use Rattle.wh_rows.specs.Deciding.{cut_one, cut_all, asks_within, are_cuts};
 ghost use Rattle.wh_table_promises.specs.Private.Asking.{is_within};
 
-use crate::lines::Line;
-use wh_rows::{Condition, Counts, Effect, count_of, raised, with_count};
+use crate::lines::IndexedRow;
+use wh_rows::{Condition, Counters, RowEffect, count_of, increment, with_count};
 
 /// What one thing that a row does besides leaves of cut counters.
-fn cut_one(tops: Counts, effect: Effect, counts: Counts) -> Counts
+fn cut_one(tops: Counters, effect: RowEffect, counts: Counters) -> Counters
     ensures { result ≡ cut_one tops effect counts }
 {
     match effect {
-        Effect::Up(counter) => {
-            let count = raised(count_of(counter, counts), count_of(counter, tops));
+        RowEffect::Up(counter) => {
+            let count = increment(count_of(counter, counts), count_of(counter, tops));
             with_count(counter, counts, count)
         }
-        Effect::Zero(counter) => with_count(counter, counts, 0),
-        Effect::Keep => counts,
+        RowEffect::Zero(counter) => with_count(counter, counts, 0),
+        RowEffect::Keep => counts,
     }
 }
 
 /// What all of them leave.
-pub(crate) fn cut_all(tops: Counts, effects: &[Effect], counts: Counts) -> Counts
+pub(crate) fn cut_all(tops: Counters, effects: &[RowEffect], counts: Counters) -> Counters
     ensures { result ≡ cut_all tops effects.now counts }
 {
     let mut counts = counts;
@@ -32,7 +32,7 @@ pub(crate) fn cut_all(tops: Counts, effects: &[Effect], counts: Counts) -> Count
 }
 
 /// Whether the number that is asked for is not past the cut.
-fn is_within(tops: Counts, condition: Condition) -> bool
+fn is_within(tops: Counters, condition: Condition) -> bool
     ensures { result ≡ is_within tops condition }
 {
     match condition {
@@ -42,7 +42,7 @@ fn is_within(tops: Counts, condition: Condition) -> bool
 }
 
 /// Whether no number that is asked for is past the cut.
-pub(crate) fn asks_within(tops: Counts, conditions: &[Condition]) -> bool
+pub(crate) fn asks_within(tops: Counters, conditions: &[Condition]) -> bool
     ensures { result ≡ asks_within tops conditions.now }
 {
     for condition in conditions {
@@ -54,14 +54,14 @@ pub(crate) fn asks_within(tops: Counts, conditions: &[Condition]) -> bool
 }
 
 /// Whether no counter is cut past its bound.
-pub(crate) fn are_cuts(bounds: Counts, tops: Counts) -> bool
+pub(crate) fn are_cuts(bounds: Counters, tops: Counters) -> bool
     ensures { result ≡ are_cuts bounds tops }
 {
     (tops.a <= bounds.a && tops.b <= bounds.b) && (tops.c <= bounds.c && tops.d <= bounds.d)
 }
 
 /// The counters with the number that a condition asks for, if that is greater.
-fn asked_by(condition: Condition, tops: Counts) -> Counts {
+fn asked_by(condition: Condition, tops: Counters) -> Counters {
     let (counter, bound) = match condition {
         Condition::Below(counter, bound) => (counter, bound),
         Condition::AtLeast(counter, bound) => (counter, bound),
@@ -74,7 +74,7 @@ fn asked_by(condition: Condition, tops: Counts) -> Counts {
 }
 
 /// The counters with the greatest numbers that conditions ask for.
-fn asked_one(conditions: &[Condition], tops: Counts) -> Counts {
+fn asked_one(conditions: &[Condition], tops: Counters) -> Counters {
     let mut tops = tops;
     for condition in conditions {
         tops = asked_by(*condition, tops);
@@ -83,8 +83,8 @@ fn asked_one(conditions: &[Condition], tops: Counts) -> Counts {
 }
 
 /// Where counters are cut: at the greatest number that a row asks for.
-pub(crate) fn cuts_of(lines: &[Line]) -> Counts {
-    let mut tops = Counts {
+pub(crate) fn cuts_of(lines: &[IndexedRow]) -> Counters {
+    let mut tops = Counters {
         a: 0,
         b: 0,
         c: 0,

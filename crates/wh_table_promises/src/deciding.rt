@@ -1,27 +1,27 @@
 //! Whether a table that was read keeps a promise.
 ghost use Rattle.std.specs.Prelude.{◌≡◌, ◌<◌, ◌≤◌, ◌^◌, true, Some, IfOk, IfSome, map};
 ghost use Rattle.wh_row_rules.specs.Broken.{definition};
-ghost use Rattle.wh_promises.specs.Deciding.{case_of};
-ghost use Rattle.wh_promises.specs.Promises.{Promises, watch_of};
+ghost use Rattle.wh_rows.specs.Deciding.{case_of};
+ghost use Rattle.wh_rows.specs.Promises.{Promises, watch_of};
 ghost use Rattle.wh_table_promises.specs.Promised.{promise_of};
 ghost use Rattle.wh_table_promises.specs.Ways.{IsRight, IsWay, IsBreach, IsKeptBefore, job_read};
 ghost use Rattle.wh_table_promises.specs.Private.Seen.{turn_seen, line_seen, config_seen};
 ghost use Rattle.wh_table_promises.specs.Private.Found.{shows_all, is_within_case, LeadsFrom};
 
 use crate::candidates::{Candidate, candidates_of};
-use crate::config::{Rules, begun, starts};
+use crate::config::{Rules, initial_configuration, starts};
 use crate::counters::{are_cuts, cuts_of};
 use crate::found::{Found, all_within, are_good, are_known};
 use crate::lines::{lines_of, place};
 use crate::promise::TablePromise;
 use crate::search::{Search, SearchEnd, begin_search, search_all, search_way};
 use crate::shortest::keep_from_start;
-use crate::watch::{Turn, budget_of, turns_of};
+use crate::watch::{WatchTurn, budget_of, turns_of};
 use crate::ways::{Breach, WayStep, follow_jobs, steps_of};
 use std::alloc::Global;
+use wh_author_tools::job_of;
 use wh_events::{OutOfMemory, Text};
 use wh_row_rules::OwnedTable;
-use wh_scenarios::job_of;
 use wh_workflow::Job;
 
 /// The greatest number that the search counts to: what happens at most so often also happens at
@@ -41,7 +41,7 @@ pub enum Doubt {
 
 /// Whether a promise is kept.
 #[derive(Drop)]
-pub enum Verdict {
+pub enum PromiseVerdict {
     /// It is, whatever jobs come.
     Kept,
     /// It is broken in this way.
@@ -70,7 +70,11 @@ fn shows(
     let configs = found.configs.as_slice();
     let slots = found.slots.as_slice();
     let mut first = Vec::new(alloc);
-    starts(&mut first, rules, &begun(place(&table.first, rows)))?;
+    starts(
+        &mut first,
+        rules,
+        &initial_configuration(place(&table.first, rows)),
+    )?;
     if !are_known(configs, slots, first.as_slice()) {
         return Ok(false);
     }
@@ -114,7 +118,7 @@ fn way_of(
     alloc: Global,
     table: &OwnedTable,
     promise: &TablePromise,
-    turns: &[Turn],
+    turns: &[WatchTurn],
     words: Vec<Text>,
 ) -> Result<Option<Vec<WayStep>>, OutOfMemory>
     requires turns { map turn_seen turns.now ≡ (watch_of (promise_of promise.now)).turns }
@@ -203,7 +207,7 @@ fn by_way(
     promise: &TablePromise,
     rules: &Rules,
     words: Vec<Text>,
-) -> Result<Verdict, OutOfMemory>
+) -> Result<PromiseVerdict, OutOfMemory>
     requires turns { map turn_seen rules.now.turns.now ≡ (watch_of (promise_of promise.now)).turns }
     requires lines { map line_seen rules.now.lines.now ≡ (case_of (definition table.now)).rows }
     requires budget { (watch_of (promise_of promise.now)).budget < 2 ^ 62 }
@@ -212,9 +216,9 @@ fn by_way(
     match way_of(alloc, table, promise, rules.turns, words)? {
         Some(way) => {
             let breach = breach_of(alloc, table, promise, rules, way)?;
-            Ok(Verdict::Broken(breach))
+            Ok(PromiseVerdict::Broken(breach))
         }
-        None => Ok(Verdict::NotDecided(Doubt::ByName)),
+        None => Ok(PromiseVerdict::NotDecided(Doubt::ByName)),
     }
 }
 
@@ -248,7 +252,7 @@ fn by_found(
     rules: &Rules,
     budget: u64,
     search: Search,
-) -> Result<Verdict, OutOfMemory>
+) -> Result<PromiseVerdict, OutOfMemory>
     requires turns { map turn_seen rules.now.turns.now ≡ (watch_of (promise_of promise.now)).turns }
     requires lines { map line_seen rules.now.lines.now ≡ (case_of (definition table.now)).rows }
     requires budget { budget < 2 ^ 62 }
@@ -256,14 +260,14 @@ fn by_found(
     ensures { IfOk result (λ verdict. IsRight (definition table.now) (promise_of promise.now) verdict) }
 {
     if proves(alloc, table, promise, rules, budget, &search.found)? {
-        return Ok(Verdict::Kept);
+        return Ok(PromiseVerdict::Kept);
     }
     let mut search = search;
     search_all(alloc, &mut search, rules, budget)?;
     if proves(alloc, table, promise, rules, budget, &search.found)? {
-        return Ok(Verdict::Kept);
+        return Ok(PromiseVerdict::Kept);
     }
-    Ok(Verdict::NotDecided(Doubt::ByName))
+    Ok(PromiseVerdict::NotDecided(Doubt::ByName))
 }
 
 /// The verdict by what a search finds.
@@ -272,7 +276,7 @@ fn by_search(
     table: &OwnedTable,
     promise: &TablePromise,
     rules: &Rules,
-) -> Result<Verdict, OutOfMemory>
+) -> Result<PromiseVerdict, OutOfMemory>
     requires turns { map turn_seen rules.now.turns.now ≡ (watch_of (promise_of promise.now)).turns }
     requires lines { map line_seen rules.now.lines.now ≡ (case_of (definition table.now)).rows }
     ensures { IfOk result (λ verdict. IsRight (definition table.now) (promise_of promise.now) verdict) }
@@ -283,10 +287,10 @@ fn by_search(
     let mut search = begin_search(alloc, rules, first)?;
     match search_way(alloc, &mut search, rules, budget, candidates.as_slice())? {
         SearchEnd::Complete => by_found(alloc, table, promise, rules, budget, search),
-        SearchEnd::TooMany => Ok(Verdict::NotDecided(Doubt::TooMany)),
+        SearchEnd::TooMany => Ok(PromiseVerdict::NotDecided(Doubt::TooMany)),
         SearchEnd::Breaks(path) => {
             if budget < budget_of(promise) {
-                return Ok(Verdict::NotDecided(Doubt::TooMany));
+                return Ok(PromiseVerdict::NotDecided(Doubt::TooMany));
             }
             let words = words_of(alloc, candidates.as_slice(), path.as_slice())?;
             by_way(alloc, table, promise, rules, words)
@@ -304,7 +308,7 @@ pub fn decide(
     alloc: Global,
     table: &OwnedTable,
     promise: &TablePromise,
-) -> Result<Verdict, OutOfMemory>
+) -> Result<PromiseVerdict, OutOfMemory>
     ensures { IfOk result (λ verdict. IsRight (definition table.now) (promise_of promise.now) verdict) }
 {
     let lines = lines_of(alloc, table.rows.get())?;

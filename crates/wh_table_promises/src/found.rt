@@ -1,15 +1,15 @@
 //! Configurations that were found, and whether they show a promise.
 ghost use Rattle.std.specs.Prelude.{◌≡◌, ◌<◌, ◌^◌, true, IfOk, OnOk, length, map};
-ghost use Rattle.wh_promises.specs.Deciding.{same_counts, covered, each, all_within};
+ghost use Rattle.wh_rows.specs.Deciding.{same_counts, covered, each, all_within};
 ghost use Rattle.wh_table_promises.specs.Private.Seen.{turn_seen, line_seen, config_seen};
 ghost use Rattle.wh_table_promises.specs.Private.Found.{is_in, is_good, is_line_within, GoesOn};
 
-use crate::config::{Config, Rules, steps};
+use crate::config::{Configuration, Rules, steps};
 use crate::counters::asks_within;
-use crate::lines::Line;
+use crate::lines::IndexedRow;
 use std::alloc::Global;
 use wh_events::OutOfMemory;
-use wh_rows::Counts;
+use wh_rows::Counters;
 
 /// The most configurations that a search looks at.
 pub const MOST_CONFIGURATIONS: usize = 200_000;
@@ -18,7 +18,7 @@ pub const MOST_CONFIGURATIONS: usize = 200_000;
 #[derive(Drop)]
 pub(crate) struct Found {
     /// The configurations.
-    pub configs: Vec<Config>,
+    pub configs: Vec<Configuration>,
     /// One more than the number of a configuration, or 0 if the slot is empty.
     pub slots: Vec<usize>,
 }
@@ -32,14 +32,14 @@ pub(crate) fn none_found(alloc: Global) -> Result<Found, OutOfMemory> {
 }
 
 /// Whether both are the same numbers.
-fn same_counts(one: Counts, other: Counts) -> bool
+fn same_counts(one: Counters, other: Counters) -> bool
     ensures { result ≡ same_counts one other }
 {
     (one.a == other.a && one.b == other.b) && (one.c == other.c && one.d == other.d)
 }
 
 /// Whether both stand at the same place.
-fn same_place(one: &Config, other: &Config) -> bool {
+fn same_place(one: &Configuration, other: &Configuration) -> bool {
     one.state == other.state
         && one.closed == other.closed
         && same_counts(one.counts, other.counts)
@@ -47,7 +47,7 @@ fn same_place(one: &Config, other: &Config) -> bool {
 }
 
 /// Whether the first stands where the second does, and has spent no more.
-pub(crate) fn covered(one: &Config, other: &Config) -> bool
+pub(crate) fn is_covered(one: &Configuration, other: &Configuration) -> bool
     ensures { result ≡ covered (config_seen one.now) (config_seen other.now) }
 {
     (one.state == other.state && one.closed == other.closed)
@@ -56,7 +56,7 @@ pub(crate) fn covered(one: &Config, other: &Config) -> bool
 }
 
 /// A scattered number of the place where a configuration stands.
-fn key_of(one: &Config) -> u64 {
+fn key_of(one: &Configuration) -> u64 {
     let mut key = one.state as u64;
     for part in [
         one.counts.a,
@@ -74,7 +74,7 @@ fn key_of(one: &Config) -> u64 {
 
 /// The slot of the place where a configuration stands: one that names a configuration there, or else
 /// an empty one, if there is one.
-pub(crate) fn slot_of(configs: &[Config], slots: &[usize], one: &Config) -> usize
+pub(crate) fn slot_of(configs: &[Configuration], slots: &[usize], one: &Configuration) -> usize
     requires { 0 < length slots.now }
     ensures { result < length slots.now }
 {
@@ -90,7 +90,7 @@ pub(crate) fn slot_of(configs: &[Config], slots: &[usize], one: &Config) -> usiz
 }
 
 /// Adds a configuration, unless one is found that covers it. Says whether it was added.
-pub(crate) fn add(found: &mut Found, one: Config) -> Result<bool, OutOfMemory>
+pub(crate) fn add(found: &mut Found, one: Configuration) -> Result<bool, OutOfMemory>
     ensures { OnOk result (GoesOn (map config_seen found.old.configs.items) (map config_seen found.new.configs.items)) }
 {
     if is_known(found.configs.as_slice(), found.slots.as_slice(), &one) {
@@ -105,7 +105,7 @@ pub(crate) fn add(found: &mut Found, one: Config) -> Result<bool, OutOfMemory>
 }
 
 /// Whether one of the configurations is found that covers this one.
-fn is_known(configs: &[Config], slots: &[usize], one: &Config) -> bool
+fn is_known(configs: &[Configuration], slots: &[usize], one: &Configuration) -> bool
     ensures { result ≡ true → is_in (map config_seen configs.now) (config_seen one.now) ≡ true }
 {
     if slots.is_empty() {
@@ -115,11 +115,11 @@ fn is_known(configs: &[Config], slots: &[usize], one: &Config) -> bool
     if held == 0 || configs.len() < held {
         return false;
     }
-    covered(one, &configs[held - 1])
+    is_covered(one, &configs[held - 1])
 }
 
 /// Whether for each of the list one is found that covers it.
-pub(crate) fn are_known(configs: &[Config], slots: &[usize], list: &[Config]) -> bool
+pub(crate) fn are_known(configs: &[Configuration], slots: &[usize], list: &[Configuration]) -> bool
     ensures { result ≡ true → each (is_in (map config_seen configs.now)) (map config_seen list.now) ≡ true }
 {
     for one in list {
@@ -135,9 +135,9 @@ fn is_good(
     alloc: Global,
     rules: &Rules,
     budget: u64,
-    configs: &[Config],
+    configs: &[Configuration],
     slots: &[usize],
-    one: &Config,
+    one: &Configuration,
 ) -> Result<bool, OutOfMemory>
     requires { budget < 2 ^ 62 }
     ensures { IfOk result (λ good. good ≡ true → is_good rules.now.tops (map turn_seen rules.now.turns.now) budget
@@ -156,9 +156,9 @@ pub(crate) fn are_good(
     alloc: Global,
     rules: &Rules,
     budget: u64,
-    configs: &[Config],
+    configs: &[Configuration],
     slots: &[usize],
-    list: &[Config],
+    list: &[Configuration],
 ) -> Result<bool, OutOfMemory>
     requires { budget < 2 ^ 62 }
     ensures { IfOk result (λ good. good ≡ true → each (is_good rules.now.tops (map turn_seen rules.now.turns.now) budget
@@ -173,14 +173,14 @@ pub(crate) fn are_good(
 }
 
 /// Whether the state of the row is one of so many, and cut counters tell whether it fits.
-fn is_line_within(many: usize, tops: Counts, line: &Line) -> bool
+fn is_line_within(many: usize, tops: Counters, line: &IndexedRow) -> bool
     ensures { result ≡ is_line_within many tops (line_seen line.now) }
 {
     line.state < many && asks_within(tops, line.row.conditions.get())
 }
 
 /// Whether it is so for each row.
-pub(crate) fn all_within(many: usize, tops: Counts, lines: &[Line]) -> bool
+pub(crate) fn all_within(many: usize, tops: Counters, lines: &[IndexedRow]) -> bool
     ensures { result ≡ all_within many tops (map line_seen lines.now) }
 {
     for line in lines {

@@ -1,4 +1,4 @@
-//! Whether a table that was read keeps what it promises: the promises of `wh_promises`, decided when
+//! Whether a table that was read keeps what it promises: the promises of `wh_rows`, decided when
 //! the program runs.
 //!
 //! A promise is broken by a scenario, or kept whatever jobs come. A search looks for a shortest
@@ -23,7 +23,7 @@ mod turning;
 mod watch;
 mod ways;
 
-pub use deciding::{Doubt, Verdict, decide};
+pub use deciding::{Doubt, PromiseVerdict, decide};
 pub use found::MOST_CONFIGURATIONS;
 pub use promise::{Happening, TablePromise};
 pub use ways::{Breach, WayStep};

@@ -1,6 +1,6 @@
 //! Rows with numbers in place of states.
 ghost use Rattle.std.specs.Prelude.{◌≡◌, IfOk, map};
-ghost use Rattle.wh_promises.specs.Deciding.{place, next_number, line, lines};
+ghost use Rattle.wh_rows.specs.Deciding.{place, next_number, line, lines};
 ghost use Rattle.wh_table_promises.specs.Private.Seen.{line_seen};
 
 use std::alloc::Global;
@@ -9,7 +9,7 @@ use wh_row_rules::{OwnedRow, some_closes, text_eq};
 
 /// A row with numbers in place of states.
 #[derive(Clone, Copy)]
-pub(crate) struct Line<'a> {
+pub(crate) struct IndexedRow<'a> {
     /// The row.
     pub row: &'a OwnedRow,
     /// It is for each state.
@@ -46,10 +46,10 @@ fn next_number(name: &Text, rows: &[OwnedRow]) -> Option<usize>
 }
 
 /// A row of a table with numbers.
-fn line_of<'a>(rows: &[OwnedRow], row: &'a OwnedRow) -> Line<'a>
+fn line_of<'a>(rows: &[OwnedRow], row: &'a OwnedRow) -> IndexedRow<'a>
     ensures { line_seen result ≡ line rows.now row.now }
 {
-    Line {
+    IndexedRow {
         row,
         any: row.state.get() == "any",
         state: place(&row.state, rows),
@@ -62,7 +62,7 @@ fn line_of<'a>(rows: &[OwnedRow], row: &'a OwnedRow) -> Line<'a>
 pub(crate) fn lines_of<'a>(
     alloc: Global,
     rows: &'a [OwnedRow],
-) -> Result<Vec<Line<'a>>, OutOfMemory>
+) -> Result<Vec<IndexedRow<'a>>, OutOfMemory>
     ensures { IfOk result (λ all. map line_seen all.items ≡ lines rows.now rows.now) }
 {
     let mut all = Vec::new(alloc);

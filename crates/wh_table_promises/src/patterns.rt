@@ -1,7 +1,7 @@
 //! Which patterns share jobs.
 ghost use Rattle.std.specs.Prelude.{◌≡◌, bytes_eq, map, option_map};
-ghost use Rattle.wh_promises.specs.Deciding.{number_of, text_of, texts_apart, versions_apart, apart, is_among};
-ghost use Rattle.wh_promises.specs.Deciding.{may_be, may_happen, must_happen};
+ghost use Rattle.wh_rows.specs.Deciding.{number_of, text_of, texts_apart, versions_apart, apart, is_among};
+ghost use Rattle.wh_rows.specs.Deciding.{may_be, may_happen, must_happen};
 ghost use Rattle.wh_table_promises.specs.Promised.{happening_of};
 
 use crate::promise::Happening;
@@ -67,7 +67,7 @@ fn versions_apart(one: &JobPattern<Text>, other: &JobPattern<Text>) -> bool
 }
 
 /// Whether no job is of both patterns.
-fn apart(one: &JobPattern<Text>, other: &JobPattern<Text>) -> bool
+fn are_apart(one: &JobPattern<Text>, other: &JobPattern<Text>) -> bool
     ensures { result ≡ apart one.now other.now }
 {
     if number_of(one) == number_of(other) {
@@ -95,7 +95,7 @@ fn may_be(known: Option<&JobPattern<Text>>, wanted: &JobPattern<Text>) -> bool
 {
     match known {
         None => true,
-        Some(one) => !apart(one, wanted),
+        Some(one) => !are_apart(one, wanted),
     }
 }
 

@@ -26,7 +26,7 @@ pub enum Happening {
     Closes,
 }
 
-/// A promise of a table that was read: one of those of `wh_promises`.
+/// A promise of a table that was read: one of those of `wh_rows`.
 #[derive(Drop)]
 pub enum TablePromise {
     /// It happens so many times at most.

@@ -3,11 +3,13 @@
 ghost use Rattle.std.specs.Prelude.{◌≡◌, ◌≤◌, ◌<◌, ◌+◌, ◌^◌};
 
 use crate::candidates::Candidate;
-use crate::config::{Config, Rules, begun, is_ready, stand, started, steps};
+use crate::config::{
+    Configuration, Rules, initial_configuration, is_ready, stand, start_row, steps,
+};
 use crate::found::{Found, MOST_CONFIGURATIONS, add, none_found};
-use crate::lines::Line;
+use crate::lines::IndexedRow;
 use crate::promise::Happening;
-use crate::watch::{Standing, Turn, took};
+use crate::watch::{WatchState, WatchTurn, watch_after_turn};
 use std::alloc::Global;
 use wh_events::{OutOfMemory, Text};
 use wh_row_rules::covers;
@@ -15,7 +17,7 @@ use wh_rows::JobPattern;
 
 /// How a configuration was reached.
 #[derive(Clone, Copy)]
-struct Origin {
+struct Predecessor {
     /// The number of the configuration before it.
     from: usize,
     /// The number of the job that led to it.
@@ -28,7 +30,7 @@ pub(crate) struct Search {
     /// The configurations that were reached.
     pub found: Found,
     /// How each was reached.
-    origins: Vec<Origin>,
+    origins: Vec<Predecessor>,
 }
 
 /// How a search ends.
@@ -43,10 +45,10 @@ pub(crate) enum SearchEnd {
 
 /// The first turn that a job of the pattern makes.
 fn turn_on<'t, 'a>(
-    turns: &'t [Turn<'a>],
+    turns: &'t [WatchTurn<'a>],
     pattern: &JobPattern<Text>,
     at: u64,
-) -> Option<&'t Turn<'a>> {
+) -> Option<&'t WatchTurn<'a>> {
     for turn in turns {
         if let Happening::Comes(wanted) = turn.what {
             if turn.from == at && covers(wanted, pattern) {
@@ -58,18 +60,25 @@ fn turn_on<'t, 'a>(
 }
 
 /// Where a watch stands after a job of the pattern.
-fn turned_on(turns: &[Turn], pattern: &JobPattern<Text>, now: Standing) -> Standing
+fn watch_after_pattern(
+    turns: &[WatchTurn],
+    pattern: &JobPattern<Text>,
+    now: WatchState,
+) -> WatchState
     requires { now.spent < 2 ^ 62 }
     ensures { result.spent ≤ 2 ^ 62 }
 {
     match turn_on(turns, pattern, now.at) {
-        Some(turn) => took(turn, now),
+        Some(turn) => watch_after_turn(turn, now),
         None => now,
     }
 }
 
 /// The first row that fits.
-fn ready_line<'t, 'a>(lines: &'t [Line<'a>], one: &Config) -> Option<&'t Line<'a>> {
+fn ready_line<'t, 'a>(
+    lines: &'t [IndexedRow<'a>],
+    one: &Configuration,
+) -> Option<&'t IndexedRow<'a>> {
     for line in lines {
         if is_ready(line, one) {
             return Some(line);
@@ -79,19 +88,19 @@ fn ready_line<'t, 'a>(lines: &'t [Line<'a>], one: &Config) -> Option<&'t Line<'a
 }
 
 /// Where a job leads.
-fn step(rules: &Rules, candidate: &Candidate, one: &Config) -> Config
+fn step(rules: &Rules, candidate: &Candidate, one: &Configuration) -> Configuration
     requires { one.now.watch.spent < 2 ^ 62 }
 {
     let line = ready_line(candidate.lines.as_slice(), one);
-    let now = turned_on(rules.turns, candidate.pattern, one.watch);
+    let now = watch_after_pattern(rules.turns, candidate.pattern, one.watch);
     stand(rules, line, one, now)
 }
 
 /// Where the start leads.
-fn after_start(rules: &Rules, first: usize) -> Config {
-    let one = begun(first);
-    let line = started(rules.lines, &one);
-    let now = turned_on(rules.turns, &JobPattern::Start, one.watch);
+fn after_start(rules: &Rules, first: usize) -> Configuration {
+    let one = initial_configuration(first);
+    let line = start_row(rules.lines, &one);
+    let now = watch_after_pattern(rules.turns, &JobPattern::Start, one.watch);
     stand(rules, line, &one, now)
 }
 
@@ -104,7 +113,7 @@ fn new_search(alloc: Global) -> Result<Search, OutOfMemory> {
 }
 
 /// Adds a configuration, unless one is found that covers it.
-fn reach(search: &mut Search, one: Config, origin: Origin) -> Result<(), OutOfMemory> {
+fn reach(search: &mut Search, one: Configuration, origin: Predecessor) -> Result<(), OutOfMemory> {
     if add(&mut search.found, one)? {
         search.origins.push(origin)?;
     }
@@ -117,18 +126,26 @@ fn visit(
     rules: &Rules,
     candidates: &[Candidate],
     from: usize,
-    one: &Config,
+    one: &Configuration,
 ) -> Result<(), OutOfMemory>
     requires { one.now.watch.spent < 2 ^ 62 }
 {
     for (by, candidate) in candidates.iter().enumerate() {
-        reach(search, step(rules, candidate, one), Origin { from, by })?;
+        reach(
+            search,
+            step(rules, candidate, one),
+            Predecessor { from, by },
+        )?;
     }
     Ok(())
 }
 
 /// The jobs that led to a configuration.
-fn path_to(alloc: Global, origins: &[Origin], index: usize) -> Result<Vec<usize>, OutOfMemory> {
+fn path_to(
+    alloc: Global,
+    origins: &[Predecessor],
+    index: usize,
+) -> Result<Vec<usize>, OutOfMemory> {
     let mut path = Vec::new(alloc);
     let mut index = index;
     for _step in 0..origins.len() {
@@ -171,7 +188,7 @@ pub(crate) fn begin_search(
 ) -> Result<Search, OutOfMemory> {
     let mut search = new_search(alloc)?;
     let one = after_start(rules, first);
-    reach(&mut search, one, Origin { from: 0, by: 0 })?;
+    reach(&mut search, one, Predecessor { from: 0, by: 0 })?;
     Ok(search)
 }
 
@@ -202,14 +219,14 @@ fn reach_each(
     alloc: Global,
     search: &mut Search,
     rules: &Rules,
-    one: &Config,
+    one: &Configuration,
 ) -> Result<(), OutOfMemory>
     requires { one.now.watch.spent < 2 ^ 62 }
 {
     let mut next = Vec::new(alloc);
     steps(alloc, &mut next, rules, one)?;
     for config in &next {
-        reach(search, *config, Origin { from: 0, by: 0 })?;
+        reach(search, *config, Predecessor { from: 0, by: 0 })?;
     }
     Ok(())
 }

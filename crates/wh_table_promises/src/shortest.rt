@@ -1,17 +1,17 @@
 //! Whether no path of fewer jobs breaks a promise: all configurations that so many jobs lead to
 //! keep to the budget, one job after another.
 ghost use Rattle.std.specs.Prelude.{◌≡◌, ◌<◌, ◌^◌, true, IfOk, OnOk, map, take, drop};
-ghost use Rattle.wh_promises.specs.Deciding.{each};
+ghost use Rattle.wh_rows.specs.Deciding.{each};
 ghost use Rattle.wh_table_promises.specs.Private.Seen.{turn_seen, line_seen, config_seen};
 ghost use Rattle.wh_table_promises.specs.Private.Found.{is_good, GoesOn, Leads, LeadsFrom};
 
-use crate::config::{Config, Rules, begun, starts, steps};
+use crate::config::{Configuration, Rules, initial_configuration, starts, steps};
 use crate::found::{Found, MOST_CONFIGURATIONS, add, are_good, are_known, none_found};
 use std::alloc::Global;
 use wh_events::OutOfMemory;
 
 /// Adds each of these, unless one is found that covers it.
-fn add_each(found: &mut Found, list: &[Config]) -> Result<(), OutOfMemory>
+fn add_each(found: &mut Found, list: &[Configuration]) -> Result<(), OutOfMemory>
     ensures { OnOk result (GoesOn (map config_seen found.old.configs.items) (map config_seen found.new.configs.items)) }
 {
     for one in list {
@@ -27,7 +27,7 @@ fn expand(
     found: &mut Found,
     rules: &Rules,
     budget: u64,
-    one: &Config,
+    one: &Configuration,
 ) -> Result<bool, OutOfMemory>
     requires { budget < 2 ^ 62 }
     ensures { OnOk result (GoesOn (map config_seen found.old.configs.items) (map config_seen found.new.configs.items)) }
@@ -158,7 +158,7 @@ pub(crate) fn keep_from_start(
         (map line_seen rules.now.lines.now) first jobs) }
 {
     let mut list = Vec::new(alloc);
-    starts(&mut list, rules, &begun(first))?;
+    starts(&mut list, rules, &initial_configuration(first))?;
     let mut found = none_found(alloc)?;
     add_each(&mut found, list.as_slice())?;
     if !are_known(

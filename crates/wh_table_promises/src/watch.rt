@@ -1,7 +1,7 @@
 //! The watch by which a promise is decided.
 ghost use Rattle.std.specs.Prelude.{◌≡◌, ◌≤◌, ◌<◌, ◌+◌, ◌-◌, ◌^◌, IfOk, cond, map};
-ghost use Rattle.wh_promises.specs.Watches.{took, new_standing};
-ghost use Rattle.wh_promises.specs.Promises.{watch_of};
+ghost use Rattle.wh_rows.specs.Watches.{took, new_standing};
+ghost use Rattle.wh_rows.specs.Promises.{watch_of};
 ghost use Rattle.wh_table_promises.specs.Promised.{happening_of, promise_of};
 ghost use Rattle.wh_table_promises.specs.Private.Seen.{turn_seen, standing_seen};
 
@@ -11,7 +11,7 @@ use wh_events::OutOfMemory;
 
 /// A turn of a watch.
 #[derive(Clone, Copy)]
-pub(crate) struct Turn<'a> {
+pub(crate) struct WatchTurn<'a> {
     /// In this state of the watch.
     pub from: u64,
     /// Where this happens.
@@ -24,7 +24,7 @@ pub(crate) struct Turn<'a> {
 
 /// Where a watch stands.
 #[derive(Clone, Copy)]
-pub(crate) struct Standing {
+pub(crate) struct WatchState {
     /// Its state.
     pub at: u64,
     /// What it has spent.
@@ -32,21 +32,21 @@ pub(crate) struct Standing {
 }
 
 /// Where a watch begins.
-pub(crate) fn new_standing() -> Standing
+pub(crate) fn new_standing() -> WatchState
     ensures { standing_seen result ≡ new_standing }
 {
-    Standing { at: 1, spent: 0 }
+    WatchState { at: 1, spent: 0 }
 }
 
 /// Where a watch stands after a turn.
-pub(crate) fn took(turn: &Turn, now: Standing) -> Standing
+pub(crate) fn watch_after_turn(turn: &WatchTurn, now: WatchState) -> WatchState
     requires { now.spent < 2 ^ 64 - 1 }
     ensures took { standing_seen result ≡ took (turn_seen turn.now) (standing_seen now) }
     ensures least { now.spent ≤ result.spent }
     ensures most { result.spent ≤ now.spent + 1 }
 {
     let cost = if turn.spends { 1 } else { 0 };
-    Standing {
+    WatchState {
         at: turn.to,
         spent: now.spent + cost,
     }
@@ -63,11 +63,11 @@ pub(crate) fn budget_of(promise: &TablePromise) -> u64
 }
 
 /// A turn of a watch.
-fn new_turn<'a>(from: u64, what: &'a Happening, to: u64, spends: bool) -> Turn<'a>
+fn new_turn<'a>(from: u64, what: &'a Happening, to: u64, spends: bool) -> WatchTurn<'a>
     ensures { turn_seen result
         ≡ record { from = from; what = happening_of what.now; to = to; cost = cond spends 1 0 } }
 {
-    Turn {
+    WatchTurn {
         from,
         what,
         to,
@@ -79,7 +79,7 @@ fn new_turn<'a>(from: u64, what: &'a Happening, to: u64, spends: bool) -> Turn<'
 pub(crate) fn turns_of<'a>(
     alloc: Global,
     promise: &'a TablePromise,
-) -> Result<Vec<Turn<'a>>, OutOfMemory>
+) -> Result<Vec<WatchTurn<'a>>, OutOfMemory>
     ensures { IfOk result (λ turns. map turn_seen turns.items ≡ (watch_of (promise_of promise.now)).turns) }
 {
     let mut turns = Vec::new(alloc);

@@ -2,21 +2,21 @@
 ghost use Rattle.std.specs.Prelude.{◌≡◌, ◌≤◌, ◌<◌, ◌+◌, ◌-◌, ◌^◌, true, IfOk, IfSome, OnOk, length, map};
 ghost use Rattle.wh_rows.specs.Rows.{fits, after, initial, seen_by, rows_give, after_rows};
 ghost use Rattle.wh_row_rules.specs.Broken.{definition};
-ghost use Rattle.wh_promises.specs.Courses.{begins, goes_on, comes, is_given, gave};
-ghost use Rattle.wh_promises.specs.Watches.{watched};
-ghost use Rattle.wh_scenarios.specs.CommandTexts.{commands_text};
+ghost use Rattle.wh_rows.specs.Courses.{begins, goes_on, comes, is_given, gave};
+ghost use Rattle.wh_rows.specs.Watches.{watched};
+ghost use Rattle.wh_author_tools.specs.CommandTexts.{commands_text};
 ghost use Rattle.wh_table_promises.specs.Promised.{happening_of};
 ghost use Rattle.wh_table_promises.specs.Ways.{text_given, texts_given, row_from, row_taken, rows_taken};
 ghost use Rattle.wh_table_promises.specs.Private.Seen.{turn_seen, standing_seen};
 ghost use Rattle.wh_table_promises.specs.Private.Told.{told_by, given_by, through, spends};
 
 use crate::promise::Happening;
-use crate::watch::{Standing, Turn, new_standing, took};
+use crate::watch::{WatchState, WatchTurn, new_standing, watch_after_turn};
 use std::alloc::{AllocError, Global};
+use wh_author_tools::commands_text;
 use wh_events::{Items, OutOfMemory, Text};
 use wh_row_rules::{OwnedRow, OwnedTable};
-use wh_rows::{Counts, RowsState, StateName, all_hold, answer, is_for_job, take_start};
-use wh_scenarios::commands_text;
+use wh_rows::{Counters, RowsState, StateName, all_hold, answer, is_for_job, take_start};
 use wh_workflow::{Command, Job, no_payloads, text_of};
 
 /// A line of a scenario that breaks a promise: a job, and the commands that it is given.
@@ -50,14 +50,14 @@ fn comes(what: &Happening, state: &RowsState, job: &Job) -> bool
 }
 
 /// Where a watch stands once a job has come.
-fn told(turns: &[Turn], state: &RowsState, job: &Job, now: Standing) -> Standing
+fn watch_after_job(turns: &[WatchTurn], state: &RowsState, job: &Job, now: WatchState) -> WatchState
     requires { now.spent < 2 ^ 62 }
     ensures told { standing_seen result ≡ told_by (map turn_seen turns.now) state.now job.now (standing_seen now) }
     ensures most { result.spent ≤ 2 ^ 62 }
 {
     for turn in turns {
         if turn.from == now.at && comes(turn.what, state, job) {
-            return took(turn, now);
+            return watch_after_turn(turn, now);
         }
     }
     now
@@ -96,21 +96,21 @@ fn is_given(what: &Happening, command: &Command) -> bool
 }
 
 /// Where a watch stands after a command.
-fn given_by(turns: &[Turn], command: &Command, now: Standing) -> Standing
+fn given_by(turns: &[WatchTurn], command: &Command, now: WatchState) -> WatchState
     requires { now.spent < 2 ^ 64 - 1 }
     ensures given { standing_seen result ≡ given_by (map turn_seen turns.now) command.now (standing_seen now) }
     ensures most { result.spent ≤ now.spent + 1 }
 {
     for turn in turns {
         if turn.from == now.at && is_given(turn.what, command) {
-            return took(turn, now);
+            return watch_after_turn(turn, now);
         }
     }
     now
 }
 
 /// Where a watch stands after commands.
-fn all_given(turns: &[Turn], commands: &[Command], now: Standing) -> Standing
+fn all_given(turns: &[WatchTurn], commands: &[Command], now: WatchState) -> WatchState
     requires { now.spent ≤ 2 ^ 62 }
     ensures { standing_seen result ≡ watched (map turn_seen turns.now) (standing_seen now) (gave commands.now) }
 {
@@ -148,12 +148,12 @@ fn first_run(alloc: Global, table: &OwnedTable) -> Result<RowsState, OutOfMemory
     ensures { IfOk result (λ run. run ≡ initial (definition table.now)) }
 {
     Ok(RowsState {
-        at: StateName::owned(table.first.try_copy()?),
+        at: StateName::from_text(table.first.try_copy()?),
         closed: false,
         name: text_of(alloc, "")?,
         input: no_payloads(alloc),
         kept: no_payloads(alloc),
-        counts: Counts {
+        counts: Counters {
             a: 0,
             b: 0,
             c: 0,
@@ -164,7 +164,7 @@ fn first_run(alloc: Global, table: &OwnedTable) -> Result<RowsState, OutOfMemory
 
 /// What a job is given.
 #[derive(Drop)]
-pub(crate) struct Given {
+pub(crate) struct JobReply {
     /// The commands, as scenarios write them.
     pub text: Text,
     /// The number of the row that counts, if one fits.
@@ -177,7 +177,7 @@ struct Followed {
     /// The run.
     run: RowsState,
     /// The watch.
-    watch: Standing,
+    watch: WatchState,
 }
 
 /// Lets a run see a job.
@@ -238,10 +238,10 @@ fn text_of_all(alloc: Global, commands: &[Command]) -> Result<Text, OutOfMemory>
 fn follow_job(
     alloc: Global,
     table: &OwnedTable,
-    turns: &[Turn],
+    turns: &[WatchTurn],
     now: &mut Followed,
     job: &Job,
-) -> Result<Given, OutOfMemory>
+) -> Result<JobReply, OutOfMemory>
     requires { now.old.watch.spent < 2 ^ 62 }
     ensures text { IfOk result (λ given. given.text ≡ text_given (definition table.now) now.old.run job.now) }
     ensures row { IfOk result (λ given. given.row ≡ row_taken (definition table.now) now.old.run job.now) }
@@ -251,11 +251,11 @@ fn follow_job(
 {
     see_job(alloc, table, &mut now.run, job)?;
     let row = row_of(table.rows.get(), &now.run, job);
-    let watch = told(turns, &now.run, job, now.watch);
+    let watch = watch_after_job(turns, &now.run, job, now.watch);
     let commands = answer_job(alloc, table, &mut now.run, job)?;
     now.watch = all_given(turns, commands.as_slice(), watch);
     let text = text_of_all(alloc, commands.as_slice())?;
-    Ok(Given { text, row })
+    Ok(JobReply { text, row })
 }
 
 /// Follows jobs, and says what each is given. `None` if the watch keeps to the budget, or has
@@ -263,10 +263,10 @@ fn follow_job(
 pub(crate) fn follow_jobs(
     alloc: Global,
     table: &OwnedTable,
-    turns: &[Turn],
+    turns: &[WatchTurn],
     budget: u64,
     jobs: &[Job],
-) -> Result<Option<Vec<Given>>, OutOfMemory>
+) -> Result<Option<Vec<JobReply>>, OutOfMemory>
     requires { budget < 2 ^ 62 }
     ensures texts { IfOk result (λ found. IfSome found (λ all. map (λ given. given.text) all.items
         ≡ texts_given (definition table.now) (initial (definition table.now)) jobs.now)) }
@@ -302,7 +302,7 @@ pub(crate) fn follow_jobs(
 pub(crate) fn steps_of(
     alloc: Global,
     words: &[Text],
-    all: &[Given],
+    all: &[JobReply],
 ) -> Result<Vec<WayStep>, OutOfMemory>
     requires { length words.now ≡ length all.now }
     ensures jobs { IfOk result (λ way. map (λ step. step.job) way.items ≡ words.now) }

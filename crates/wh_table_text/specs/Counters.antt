@@ -3,7 +3,7 @@ use Rattle.std.specs.Prelude.{ℕ, suc, List, [], ◌∷◌, bytes_eq, nat_eq, O
 use Rattle.wh_json.specs.Fields.{number_in}
 use Rattle.wh_rows.specs.declared.row.Counter.{Counter}
 use Rattle.wh_rows.specs.declared.row.Counter.TheVariants as counters
-use Rattle.wh_rows.specs.declared.row.Counts.{Counts}
+use Rattle.wh_rows.specs.declared.row.Counters.{Counters}
 use Rattle.wh_table_text.specs.declared.fault.TableFault.{TableFault}
 use Rattle.wh_table_text.specs.declared.fault.TableFault.TheVariants as faults
 use Rattle.wh_table_text.specs.declared.counters.NamedCounter.{NamedCounter}
@@ -34,7 +34,7 @@ abbrev pub bound_at : ℕ → List NamedCounter → ℕ
 bound_at place names = bound_of (slice_get names place)
 
 -- the bound of each counter
-abbrev pub bounds_of : List NamedCounter → Counts
+abbrev pub bounds_of : List NamedCounter → Counters
 bounds_of names = record { a = bound_at 0 names; b = bound_at 1 names; c = bound_at 2 names; d = bound_at 3 names }
 
 -- the counter of a phrase, its name and its bound

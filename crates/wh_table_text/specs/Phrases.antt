@@ -12,8 +12,8 @@ use Rattle.wh_rows.specs.declared.row.Naming.TheVariants as namings
 use Rattle.wh_rows.specs.declared.row.Counter.{Counter}
 use Rattle.wh_rows.specs.declared.row.Condition.{Condition}
 use Rattle.wh_rows.specs.declared.row.Condition.TheVariants as conditions
-use Rattle.wh_rows.specs.declared.row.Effect.{Effect}
-use Rattle.wh_rows.specs.declared.row.Effect.TheVariants as effects
+use Rattle.wh_rows.specs.declared.row.RowEffect.{RowEffect}
+use Rattle.wh_rows.specs.declared.row.RowEffect.TheVariants as effects
 use Rattle.wh_table_text.specs.declared.verbs.JobVerb.{JobVerb}
 use Rattle.wh_table_text.specs.declared.verbs.JobVerb.TheVariants as job
 use Rattle.wh_table_text.specs.declared.verbs.CommandVerb.{CommandVerb}
@@ -86,7 +86,7 @@ condition_of names p = if has_pair p
     else None
 
 -- the mark that a phrase describes
-abbrev pub effect_of : List NamedCounter → Words → Option Effect
+abbrev pub effect_of : List NamedCounter → Words → Option RowEffect
 effect_of names p = if bytes_eq p.verb (codes "keep") then (if has_none p then Some effects.Keep else None)
     else if bytes_eq p.verb (codes "up") then option_map effects.Up (option_and_then (named_from 0 names) (name_of p))
     else if bytes_eq p.verb (codes "zero") then option_map effects.Zero

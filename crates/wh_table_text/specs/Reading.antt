@@ -7,7 +7,7 @@ use Rattle.wh_json.specs.declared.fault.ReadFault.{ReadFault}
 use Rattle.wh_json.specs.Fields.{field, list_in}
 use Rattle.wh_json.specs.Events.{document_within}
 use Rattle.wh_rows.specs.declared.row.Condition.{Condition}
-use Rattle.wh_rows.specs.declared.row.Effect.{Effect}
+use Rattle.wh_rows.specs.declared.row.RowEffect.{RowEffect}
 use Rattle.wh_rows.specs.declared.row.Naming.TheVariants as namings
 use Rattle.wh_rows.specs.Tables.{JobPattern, CommandTemplate, Naming, Row}
 use Rattle.wh_rows.specs.Rules.{table_fault}
@@ -93,11 +93,11 @@ conditions_at names row value = do
   all_of (map (condition_at names row) texts)
 
 -- the mark that a text describes
-unfoldable pub effect_at : List NamedCounter → ℕ → List ℕ → Result Effect TableFault
+unfoldable pub effect_at : List NamedCounter → ℕ → List ℕ → Result RowEffect TableFault
 effect_at names row text = or_fault (faults.InRow row rules.UnknownMark) (effect_of names (phrase text))
 
 -- the marks of a row
-unfoldable pub effects_at : List NamedCounter → ℕ → Option Data → Result (List Effect) TableFault
+unfoldable pub effects_at : List NamedCounter → ℕ → Option Data → Result (List RowEffect) TableFault
 effects_at names row value = do
   texts ← phrases_at (faults.InRow row rules.NotText) value
   few ← passes (faults.InRow row rules.TooManyPhrases) (leb (length texts) 16)

@@ -1,7 +1,7 @@
 -- Phrases, whose words are separated by single spaces.
 use Rattle.std.specs.Prelude.{ℕ, ◌==◌, List, [], ◌∷◌, Bool, true, false, not, ◌&&◌, Option, Some, None, if◌then◌else◌}
 use Rattle.std.specs.List.{before_first, after_first}
-use Rattle.wh_table_text.specs.declared.words.Phrase.{Phrase as PhraseSeen}
+use Rattle.wh_table_text.specs.declared.words.PhraseWords.{PhraseWords as PhraseSeen}
 
 -- the first word of a text
 unfoldable pub word : List ℕ → List ℕ

@@ -7,10 +7,10 @@ ghost use Rattle.wh_table_text.specs.Outcome.{Gives};
 use crate::copies::text_copy;
 use crate::fault::TableFault;
 use crate::numbers::number_in;
-use crate::words::Phrase;
+use crate::words::PhraseWords;
 use std::alloc::Global;
 use wh_events::Text;
-use wh_rows::{Counter, Counts};
+use wh_rows::{Counter, Counters};
 
 /// A counter with its name in the table.
 #[derive(Drop)]
@@ -63,10 +63,10 @@ fn bound_at(names: &[NamedCounter], place: usize) -> u64
 }
 
 /// Returns the bound of each counter.
-pub(crate) fn bounds_of(names: &[NamedCounter]) -> Counts
+pub(crate) fn bounds_of(names: &[NamedCounter]) -> Counters
     ensures { result ≡ bounds_of names.now }
 {
-    Counts {
+    Counters {
         a: bound_at(names, 0),
         b: bound_at(names, 1),
         c: bound_at(names, 2),
@@ -75,7 +75,7 @@ pub(crate) fn bounds_of(names: &[NamedCounter]) -> Counts
 }
 
 /// Returns the counter of a phrase, its name and its bound.
-pub(crate) fn counter_of(alloc: Global, phrase: &Phrase) -> Result<NamedCounter, TableFault>
+pub(crate) fn counter_of(alloc: Global, phrase: &PhraseWords) -> Result<NamedCounter, TableFault>
     ensures { Gives (λ counter. counter) result (counter_of (phrase_seen phrase.now)) }
 {
     if !phrase.is_named() {

@@ -93,7 +93,7 @@ pub(crate) fn of_rows(fault: RowsFault) -> TableFault
 }
 
 /// Returns the words as an owned text.
-fn said(alloc: Global, words: &str) -> Result<Text, AllocError>
+fn owned_text(alloc: Global, words: &str) -> Result<Text, AllocError>
     ensures { IfOk result (λ text. text ≡ words.now) }
 {
     Ok(Text::new(String::from_str(alloc, words)?))
@@ -104,23 +104,23 @@ fn rule_text(alloc: Global, rule: BrokenRule) -> Result<Text, AllocError>
     ensures { IfOk result (λ text. text ≡ rule_text rule) }
 {
     match rule {
-        BrokenRule::TooManyCommands => said(alloc, "it gives more than 64 commands"),
+        BrokenRule::TooManyCommands => owned_text(alloc, "it gives more than 64 commands"),
         BrokenRule::CommandAfterLast => {
-            said(alloc, "a command follows one that asks or closes the run")
+            owned_text(alloc, "a command follows one that asks or closes the run")
         }
-        BrokenRule::OpensTwice => said(alloc, "it starts two things of a kind under one id"),
-        BrokenRule::BadRange => said(alloc, "it asks for a range of versions that is none"),
-        BrokenRule::NoState => said(alloc, "no state has the name same"),
-        BrokenRule::LeadsNowhere => said(alloc, "no row is for the state that it leads to"),
-        BrokenRule::NeverReached => said(alloc, "no row of another state leads to its state"),
+        BrokenRule::OpensTwice => owned_text(alloc, "it starts two things of a kind under one id"),
+        BrokenRule::BadRange => owned_text(alloc, "it asks for a range of versions that is none"),
+        BrokenRule::NoState => owned_text(alloc, "no state has the name same"),
+        BrokenRule::LeadsNowhere => owned_text(alloc, "no row is for the state that it leads to"),
+        BrokenRule::NeverReached => owned_text(alloc, "no row of another state leads to its state"),
         BrokenRule::AsksInVain => {
-            said(
+            owned_text(
                 alloc,
                 "it asks for a version that no row hears in the state after it",
             )
         }
         BrokenRule::Unbounded => {
-            said(
+            owned_text(
                 alloc,
                 "it raises a counter without a bound, or asks for more than the bound",
             )
@@ -136,30 +136,30 @@ fn row_text(alloc: Global, fault: RowFault) -> Result<Text, AllocError>
     ensures { IfOk result (λ text. text ≡ row_text fault) }
 {
     match fault {
-        RowFault::NotARow => said(alloc, "a row is a list of at most six members"),
+        RowFault::NotARow => owned_text(alloc, "a row is a list of at most six members"),
         RowFault::NotText => {
-            said(
+            owned_text(
                 alloc,
                 "a member is no text, and no list of texts where one may be",
             )
         }
-        RowFault::UnknownJob => said(alloc, "no job is written so"),
-        RowFault::TooManyPhrases => said(alloc, "it has more than 16 conditions or marks"),
+        RowFault::UnknownJob => owned_text(alloc, "no job is written so"),
+        RowFault::TooManyPhrases => owned_text(alloc, "it has more than 16 conditions or marks"),
         RowFault::UnknownCondition => {
-            said(
+            owned_text(
                 alloc,
                 "no condition is written so, or there is no such counter",
             )
         }
-        RowFault::UnknownCommand => said(alloc, "no command begins with this word"),
+        RowFault::UnknownCommand => owned_text(alloc, "no command begins with this word"),
         RowFault::BadCommand => {
-            said(
+            owned_text(
                 alloc,
                 "a command lacks a word, has one too much, or a number is out of range",
             )
         }
         RowFault::UnknownMark => {
-            said(alloc, "no mark is written so, or there is no such counter")
+            owned_text(alloc, "no mark is written so, or there is no such counter")
         }
         RowFault::Breaks(rule) => rule_text(alloc, rule),
     }
@@ -179,25 +179,25 @@ pub fn fault_text(alloc: Global, fault: TableFault) -> Result<Text, AllocError>
     ensures { IfOk result (λ text. text ≡ fault_text fault) }
 {
     match fault {
-        TableFault::NoTable => said(alloc, "there is no table"),
-        TableFault::NotJson => said(alloc, "the table is no JSON"),
-        TableFault::UnknownVersion => said(alloc, "the version of the table is not 1"),
-        TableFault::NoRows => said(alloc, "the table has no list of rows"),
-        TableFault::TooManyRows => said(alloc, "the table has more than 200 rows"),
+        TableFault::NoTable => owned_text(alloc, "there is no table"),
+        TableFault::NotJson => owned_text(alloc, "the table is no JSON"),
+        TableFault::UnknownVersion => owned_text(alloc, "the version of the table is not 1"),
+        TableFault::NoRows => owned_text(alloc, "the table has no list of rows"),
+        TableFault::TooManyRows => owned_text(alloc, "the table has more than 200 rows"),
         TableFault::BadCounters => {
-            said(
+            owned_text(
                 alloc,
                 "counters are at most four texts, each a name and a bound",
             )
         }
         TableFault::BadName => {
-            said(
+            owned_text(
                 alloc,
                 "the name is not written so: payload NUMBER PREFIX OTHER",
             )
         }
         TableFault::InRow { row, fault } => numbered_text(alloc, row, fault),
-        TableFault::BeginsNowhere => said(alloc, "the table has no row"),
-        TableFault::OutOfMemory => said(alloc, "out of memory"),
+        TableFault::BeginsNowhere => owned_text(alloc, "the table has no row"),
+        TableFault::OutOfMemory => owned_text(alloc, "out of memory"),
     }
 }

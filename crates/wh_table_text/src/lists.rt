@@ -12,12 +12,12 @@ use crate::counters::{NamedCounter, counter_of};
 use crate::fault::{RowFault, TableFault};
 use crate::phrases::{condition_of, effect_of, template_of};
 use crate::verbs::command_verb;
-use crate::words::Phrase;
+use crate::words::PhraseWords;
 use serde_json::Value;
 use std::alloc::Global;
 use wh_events::Text;
 use wh_json::list_in;
-use wh_rows::{CommandTemplate, Condition, Effect};
+use wh_rows::{CommandTemplate, Condition, RowEffect};
 
 /// Returns the fault of the row of this number.
 pub(crate) fn in_row(row: u64, fault: RowFault) -> TableFault
@@ -93,7 +93,7 @@ pub fn phrases_at(
 fn template_at(row: u64, text: &str) -> Result<CommandTemplate<&str>, TableFault>
     ensures { Gives template_shown result (template_at row text.now) }
 {
-    let phrase = Phrase::of(text);
+    let phrase = PhraseWords::of(text);
     let Some(verb) = command_verb(phrase.verb) else {
         return Err(in_row(row, RowFault::UnknownCommand));
     };
@@ -136,7 +136,7 @@ pub(crate) fn each_template(
 fn condition_at(row: u64, names: &[NamedCounter], text: &Text) -> Result<Condition, TableFault>
     ensures { Gives (λ condition. condition) result (condition_at names.now row text.now) }
 {
-    match condition_of(names, &Phrase::of(text.get())) {
+    match condition_of(names, &PhraseWords::of(text.get())) {
         Some(condition) => Ok(condition),
         None => Err(in_row(row, RowFault::UnknownCondition)),
     }
@@ -161,10 +161,10 @@ pub(crate) fn each_condition(
 
 /// Returns the mark (`up`, `zero` or `keep`) that a text describes.
 #[tactic(auto, unfolding(crate::specs::Reading::effect_at))]
-fn effect_at(row: u64, names: &[NamedCounter], text: &Text) -> Result<Effect, TableFault>
+fn effect_at(row: u64, names: &[NamedCounter], text: &Text) -> Result<RowEffect, TableFault>
     ensures { Gives (λ effect. effect) result (effect_at names.now row text.now) }
 {
-    match effect_of(names, &Phrase::of(text.get())) {
+    match effect_of(names, &PhraseWords::of(text.get())) {
         Some(effect) => Ok(effect),
         None => Err(in_row(row, RowFault::UnknownMark)),
     }
@@ -176,7 +176,7 @@ pub(crate) fn each_effect(
     row: u64,
     names: &[NamedCounter],
     texts: &[Text],
-) -> Result<Vec<Effect>, TableFault>
+) -> Result<Vec<RowEffect>, TableFault>
     ensures { Gives (λ given. given.items) result (all_of (map (effect_at names.now row) texts.now)) }
 {
     let mut given = Vec::new(alloc);
@@ -191,7 +191,7 @@ pub(crate) fn each_effect(
 fn counter_in(alloc: Global, text: &Text) -> Result<NamedCounter, TableFault>
     ensures { Gives (λ counter. counter) result (counter_in text.now) }
 {
-    counter_of(alloc, &Phrase::of(text.get()))
+    counter_of(alloc, &PhraseWords::of(text.get()))
 }
 
 /// Returns the counters that these texts describe.

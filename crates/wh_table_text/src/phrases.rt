@@ -7,11 +7,11 @@ ghost use Rattle.wh_table_text.specs.Phrases.{pattern_of, template_of, compared,
 use crate::counters::{NamedCounter, counter_named};
 use crate::numbers::{number_below, number_in, seconds_in, version_in};
 use crate::verbs::{CommandVerb, JobVerb, source_of};
-use crate::words::Phrase;
-use wh_rows::{CommandTemplate, Condition, Counter, Effect, JobPattern, Naming};
+use crate::words::PhraseWords;
+use wh_rows::{CommandTemplate, Condition, Counter, JobPattern, Naming, RowEffect};
 
 /// Returns the jobs that a phrase describes.
-pub(crate) fn pattern_of<'a>(verb: JobVerb, phrase: &Phrase<'a>) -> Option<JobPattern<&'a str>>
+pub(crate) fn pattern_of<'a>(verb: JobVerb, phrase: &PhraseWords<'a>) -> Option<JobPattern<&'a str>>
     ensures { option_map pattern_shown result ≡ pattern_of verb (phrase_seen phrase.now) }
 {
     match verb {
@@ -50,7 +50,7 @@ pub(crate) fn pattern_of<'a>(verb: JobVerb, phrase: &Phrase<'a>) -> Option<JobPa
 /// Returns the command that a phrase describes.
 pub(crate) fn template_of<'a>(
     verb: CommandVerb,
-    phrase: &Phrase<'a>,
+    phrase: &PhraseWords<'a>,
 ) -> Option<CommandTemplate<&'a str>>
     ensures { option_map template_shown result ≡ template_of verb (phrase_seen phrase.now) }
 {
@@ -121,7 +121,7 @@ pub(crate) fn template_of<'a>(
 }
 
 /// Returns the condition on a counter with this sign (`<` or `>=`) and number.
-fn compared(counter: Counter, sign: &str, number: u64) -> Option<Condition>
+fn comparison(counter: Counter, sign: &str, number: u64) -> Option<Condition>
     ensures { result ≡ compared counter sign.now number }
 {
     if sign == "<" {
@@ -134,7 +134,7 @@ fn compared(counter: Counter, sign: &str, number: u64) -> Option<Condition>
 }
 
 /// Returns the condition that a phrase describes.
-pub(crate) fn condition_of(names: &[NamedCounter], phrase: &Phrase) -> Option<Condition>
+pub(crate) fn condition_of(names: &[NamedCounter], phrase: &PhraseWords) -> Option<Condition>
     ensures { result ≡ condition_of names.now (phrase_seen phrase.now) }
 {
     if !phrase.has_pair() {
@@ -142,23 +142,23 @@ pub(crate) fn condition_of(names: &[NamedCounter], phrase: &Phrase) -> Option<Co
     }
     let counter = counter_named(names, phrase.verb)?;
     let number = number_in(phrase.second)?;
-    compared(counter, phrase.first, number)
+    comparison(counter, phrase.first, number)
 }
 
 /// Returns the mark that a phrase describes.
-pub(crate) fn effect_of(names: &[NamedCounter], phrase: &Phrase) -> Option<Effect>
+pub(crate) fn effect_of(names: &[NamedCounter], phrase: &PhraseWords) -> Option<RowEffect>
     ensures { result ≡ effect_of names.now (phrase_seen phrase.now) }
 {
     if phrase.verb == "keep" {
         if phrase.has_none() {
-            Some(Effect::Keep)
+            Some(RowEffect::Keep)
         } else {
             None
         }
     } else if phrase.verb == "up" {
-        Some(Effect::Up(counter_named(names, phrase.name()?)?))
+        Some(RowEffect::Up(counter_named(names, phrase.name()?)?))
     } else if phrase.verb == "zero" {
-        Some(Effect::Zero(counter_named(names, phrase.name()?)?))
+        Some(RowEffect::Zero(counter_named(names, phrase.name()?)?))
     } else {
         None
     }
@@ -166,7 +166,7 @@ pub(crate) fn effect_of(names: &[NamedCounter], phrase: &Phrase) -> Option<Effec
 
 /// Returns the naming of runs that a phrase describes: by a payload whose number, counted from 0,
 /// is below 65,536.
-pub(crate) fn naming_of<'a>(phrase: &Phrase<'a>) -> Option<Naming<&'a str>>
+pub(crate) fn naming_of<'a>(phrase: &PhraseWords<'a>) -> Option<Naming<&'a str>>
     ensures { option_map naming_shown result ≡ naming_of (phrase_seen phrase.now) }
 {
     if phrase.verb != "payload" {

@@ -11,7 +11,7 @@ use crate::fault::{TableFault, of_rows};
 use crate::lists::{each_counter, phrases_at};
 use crate::phrases::naming_of;
 use crate::rows::each_row;
-use crate::words::Phrase;
+use crate::words::PhraseWords;
 use serde_json::Value;
 use std::alloc::Global;
 use wh_events::{Items, Text};
@@ -75,7 +75,7 @@ pub(crate) fn naming_at(alloc: Global, value: Option<&Value>) -> Result<Naming<T
     let Some(text) = value.as_str() else {
         return Err(TableFault::BadName);
     };
-    match naming_of(&Phrase::of(text)) {
+    match naming_of(&PhraseWords::of(text)) {
         Some(naming) => naming_copy(alloc, &naming),
         None => Err(TableFault::BadName),
     }

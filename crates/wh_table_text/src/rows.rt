@@ -13,13 +13,13 @@ use crate::fault::{RowFault, TableFault};
 use crate::lists::{each_condition, each_effect, each_template, in_row, phrases_at};
 use crate::phrases::pattern_of;
 use crate::verbs::job_verb;
-use crate::words::Phrase;
+use crate::words::PhraseWords;
 use serde_json::Value;
 use std::alloc::Global;
 use wh_events::{Items, Text};
 use wh_json::list_in;
 use wh_row_rules::OwnedRow;
-use wh_rows::{CommandTemplate, Condition, Effect, JobPattern, RowOf};
+use wh_rows::{CommandTemplate, Condition, JobPattern, RowEffect, RowOf};
 
 /// The most conditions, and the most marks, of a row.
 const MOST_PHRASES: usize = 16;
@@ -43,7 +43,7 @@ fn cell(row: u64, index: usize, value: &Value) -> Result<&str, TableFault>
 fn job_at(row: u64, text: &str) -> Result<JobPattern<&str>, TableFault>
     ensures { Gives pattern_shown result (job_at row text.now) }
 {
-    let phrase = Phrase::of(text);
+    let phrase = PhraseWords::of(text);
     let Some(verb) = job_verb(phrase.verb) else {
         return Err(in_row(row, RowFault::UnknownJob));
     };
@@ -100,7 +100,7 @@ fn effects_at(
     row: u64,
     names: &[NamedCounter],
     value: Option<&Value>,
-) -> Result<Vec<Effect>, TableFault>
+) -> Result<Vec<RowEffect>, TableFault>
     ensures { Gives (λ given. given.items) result
         (effects_at names.now row (option_map (λ v. view v.now) value.entry)) }
 {

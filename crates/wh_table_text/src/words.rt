@@ -4,7 +4,7 @@ ghost use Rattle.wh_table_text.specs.Words.{word, rest, is_none, phrase, phrase_
 
 /// A phrase, split into words.
 #[derive(Clone, Copy)]
-pub(crate) struct Phrase<'a> {
+pub(crate) struct PhraseWords<'a> {
     /// The first word.
     pub verb: &'a str,
     /// All text after the first word.
@@ -46,14 +46,14 @@ fn is_none(text: &str) -> bool
     text.is_empty()
 }
 
-impl<'a> Phrase<'a> {
+impl<'a> PhraseWords<'a> {
     /// Splits a text into the words of a phrase.
     pub(crate) fn of(text: &'a str) -> Self
         ensures { phrase_seen result ≡ phrase text.now }
     {
         let after = rest(text);
         let more = rest(after);
-        Phrase {
+        PhraseWords {
             verb: word(text),
             after,
             first: word(after),

@@ -1,10 +1,10 @@
 -- The status of a trial.
 use Rattle.std.specs.Prelude.{ℕ, Option, Some, None}
-use Rattle.wh_table_trial.specs.declared.running.Difference.{Difference}
+use Rattle.wh_table_trial.specs.declared.running.TrialDifference.{TrialDifference}
 use Rattle.wh_table_trial.specs.declared.running.Trial.{Trial}
 
 -- 0 if nothing differs
-abbrev pub status_by : Option Difference → ℕ
+abbrev pub status_by : Option TrialDifference → ℕ
 status_by None = 0
 status_by (Some difference) = 1
 

@@ -3,8 +3,8 @@ use Rattle.std.specs.Prelude.{ℕ, ◌+◌, List, [], ◌∷◌, ◌++◌, lengt
 use Rattle.std.specs.Str.{trim}
 use Rattle.std.specs.Str.Lines.{lines}
 use Rattle.wh_workflow.specs.declared.job.Job.{Job}
-use Rattle.wh_scenarios.specs.JobTexts.{job_of}
-use Rattle.wh_scenarios.specs.Scenarios.{at_arrow, parts_of}
+use Rattle.wh_author_tools.specs.JobTexts.{job_of}
+use Rattle.wh_author_tools.specs.Scenarios.{at_arrow, parts_of}
 use Rattle.wh_table_text.specs.Numbered.{numbered}
 use Rattle.wh_table_trial.specs.declared.entries.Entry.{Entry}
 use Rattle.wh_table_trial.specs.declared.entries.Entry.TheVariants.{Told, NoJob, LineEnd}

@@ -2,19 +2,19 @@
 use Rattle.std.specs.Prelude.{ℕ, List, ◌++◌, length, nat_eq, codes, decimal, Option, Some, None, if◌then◌else◌}
 use Rattle.std.specs.List.{flat_map}
 use Rattle.wh_tester.specs.Report.{shown}
-use Rattle.wh_table_trial.specs.declared.running.Difference.{Difference}
-use Rattle.wh_table_trial.specs.declared.running.Difference.TheVariants as differences
-use Rattle.wh_table_trial.specs.declared.running.Step.{Step}
+use Rattle.wh_table_trial.specs.declared.running.TrialDifference.{TrialDifference}
+use Rattle.wh_table_trial.specs.declared.running.TrialDifference.TheVariants as differences
+use Rattle.wh_table_trial.specs.declared.running.TrialStep.{TrialStep}
 use Rattle.wh_table_trial.specs.declared.running.Trial.{Trial}
 
 -- a job and its commands, as a line of a scenario
-abbrev pub step_text : Step → List ℕ
+abbrev pub step_text : TrialStep → List ℕ
 step_text step =
     if nat_eq (length step.given) 0 then step.words ++ codes " =>\n"
     else step.words ++ (codes " => " ++ (step.given ++ codes "\n"))
 
 -- jobs and their commands, as lines of a scenario
-abbrev pub steps_text : List Step → List ℕ
+abbrev pub steps_text : List TrialStep → List ℕ
 steps_text steps = flat_map step_text steps
 
 -- the last line if nothing differs
@@ -37,7 +37,7 @@ gives_text name line given wanted =
     ++ (codes "\n  gives    " ++ (given ++ codes "\n"))))))
 
 -- the last lines: that nothing differs, with the number of jobs, or the difference
-abbrev pub difference_text : List ℕ → ℕ → Option Difference → List ℕ
+abbrev pub difference_text : List ℕ → ℕ → Option TrialDifference → List ℕ
 difference_text name count None = ok_text name count
 difference_text name count (Some (differences.NoTable reason)) = no_table_text name reason
 difference_text name count (Some (differences.NoJob line words)) = no_job_text name line words

@@ -5,7 +5,7 @@ use Rattle.wh_workflow.specs.declared.command.Command.{Command}
 use Rattle.wh_workflow.specs.declared.command.Command.TheVariants as commands
 use Rattle.wh_workflow.specs.declared.job.Job.{Job}
 use Rattle.wh_workflow.specs.declared.job.Job.TheVariants as jobs
-use Rattle.wh_scenarios.specs.CommandTexts.{commands_text}
+use Rattle.wh_author_tools.specs.CommandTexts.{commands_text}
 use Rattle.wh_row_rules.specs.declared.owned.OwnedTable.{OwnedTable}
 use Rattle.wh_table_text.specs.declared.fault.TableFault.{TableFault}
 use Rattle.wh_table_text.specs.Reading.{table_of}
@@ -14,10 +14,10 @@ use Rattle.wh_table.specs.declared.state.TableState.{TableState}
 use Rattle.wh_table.specs.Program as table
 use Rattle.wh_table_trial.specs.declared.entries.Entry.{Entry}
 use Rattle.wh_table_trial.specs.declared.entries.Entry.TheVariants.{Told, NoJob, LineEnd}
-use Rattle.wh_table_trial.specs.declared.running.Difference.{Difference}
-use Rattle.wh_table_trial.specs.declared.running.Difference.TheVariants as differences
-use Rattle.wh_table_trial.specs.declared.running.Run.{Run}
-use Rattle.wh_table_trial.specs.declared.running.Step.{Step}
+use Rattle.wh_table_trial.specs.declared.running.TrialDifference.{TrialDifference}
+use Rattle.wh_table_trial.specs.declared.running.TrialDifference.TheVariants as differences
+use Rattle.wh_table_trial.specs.declared.running.TrialState.{TrialState}
+use Rattle.wh_table_trial.specs.declared.running.TrialStep.{TrialStep}
 use Rattle.wh_table_trial.specs.declared.running.Trial.{Trial}
 use Rattle.wh_table_trial.specs.Entries.{scenario_entries}
 
@@ -52,10 +52,10 @@ given_text bytes given = commands_text (map (shorter bytes) given)
 pub record At : Type 0 where
   pub state : TableState
   pub given : List Command
-  pub steps : List Step
+  pub steps : List TrialStep
 
 -- the same of the program's type
-abbrev pub seen : Run → At
+abbrev pub seen : TrialState → At
 seen run = record { state = run.state; given = run.given.items; steps = run.steps.items }
 
 -- the trial after a job, with these words
@@ -77,22 +77,22 @@ later bytes run (NoJob line words) = run
 later bytes run (LineEnd line wanted) = record run { given = [] }
 
 -- the difference, if a line expects other commands
-abbrev pub differs : ℕ → List ℕ → Option (List ℕ) → Option Difference
+abbrev pub differs : ℕ → List ℕ → Option (List ℕ) → Option TrialDifference
 differs line given None = None
 differs line given (Some wanted) = if bytes_eq given wanted then None else Some (differences.Gives line given wanted)
 
 -- the difference at an entry of a scenario
-abbrev pub stop : List ℕ → At → Entry → Option Difference
+abbrev pub stop : List ℕ → At → Entry → Option TrialDifference
 stop bytes run (Told words job) = None
 stop bytes run (NoJob line words) = Some (differences.NoJob line words)
 stop bytes run (LineEnd line wanted) = differs line (given_text bytes run.given) wanted
 
 -- the result
-abbrev pub ended : At → Option Difference → Trial
+abbrev pub ended : At → Option TrialDifference → Trial
 ended run difference = record { steps = run.steps; difference = difference }
 
 -- the result if there is a difference, and else that of the rest
-abbrev pub unless : At → Option Difference → Trial → Trial
+abbrev pub unless : At → Option TrialDifference → Trial → Trial
 unless run None rest = rest
 unless run (Some difference) rest = ended run (Some difference)
 

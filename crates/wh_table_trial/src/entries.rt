@@ -5,8 +5,8 @@ ghost use Rattle.wh_table_text.specs.Numbered.{numbered};
 ghost use Rattle.wh_table_trial.specs.Entries.{entry_of, part_entries, line_end, sides_entries, line_entries, place_entries, scenario_entries};
 
 use std::alloc::Global;
+use wh_author_tools::{at_arrow, job_of, lines_of, parts_at};
 use wh_events::{OutOfMemory, Text};
-use wh_scenarios::{at_arrow, job_of, lines_of, parts_at};
 use wh_workflow::{Job, text_of};
 
 /// An entry of a scenario. Lines are counted from 1.

@@ -2,20 +2,19 @@
 ghost use Rattle.std.specs.Prelude.{◌≡◌, ◌∷◌, [], IfOk, OnOk, map};
 ghost use Rattle.wh_table.specs.Program.{after, gives};
 ghost use Rattle.wh_table_trial.specs.Entries.{scenario_entries};
-ghost use Rattle.wh_table_trial.specs.Trials.{table_payload, started, named, shorter, given_text, differs, seen, told, stop, later};
-ghost use Rattle.wh_table_trial.specs.Trials.{ended, tried, begun, no_table, trial};
+ghost use Rattle.wh_table_trial.specs.Trials.{table_payload, started, named, shorter, given_text, differs, seen, told, stop, later, ended, tried, begun, no_table, trial};
 
 use crate::entries::{Entry, scenario_entries};
 use std::alloc::Global;
+use wh_author_tools::commands_text;
 use wh_events::{Items, OutOfMemory, Payload, Text};
-use wh_scenarios::commands_text;
 use wh_table::{TableState, TableWorkflow};
 use wh_table_text::{TableFault, fault_text, read_table};
 use wh_workflow::{Command, Job, Meter, Workflow};
 
 /// A job of a scenario, and the commands that the run gives to it.
 #[derive(Drop)]
-pub struct Step {
+pub struct TrialStep {
     /// The words of the job.
     pub words: Text,
     /// The commands, as a scenario writes them.
@@ -24,7 +23,7 @@ pub struct Step {
 
 /// Where a run differs from a scenario. Lines are counted from 1.
 #[derive(Drop)]
-pub enum Difference {
+pub enum TrialDifference {
     /// The file is not a table.
     NoTable {
         /// The reason: the first fault of the table.
@@ -52,20 +51,20 @@ pub enum Difference {
 #[derive(Drop)]
 pub struct Trial {
     /// The jobs, up to the first line where the run differs.
-    pub steps: Items<Step>,
+    pub steps: Items<TrialStep>,
     /// The difference, if there is one.
-    pub difference: Option<Difference>,
+    pub difference: Option<TrialDifference>,
 }
 
 /// The state of a trial.
 #[derive(Drop)]
-struct Run {
+struct TrialState {
     /// The state of the run.
     state: TableState,
     /// The commands of the line so far.
     given: Vec<Command>,
     /// The jobs so far, with their commands.
-    steps: Vec<Step>,
+    steps: Vec<TrialStep>,
 }
 
 /// Returns the bytes of a text.
@@ -135,7 +134,7 @@ fn give(
 }
 
 /// Returns the payload, or `TABLE` instead of the table.
-fn named(alloc: Global, table: &[u8], payload: &Payload) -> Result<Payload, OutOfMemory>
+fn shorten_payload(alloc: Global, table: &[u8], payload: &Payload) -> Result<Payload, OutOfMemory>
     ensures { IfOk result (λ own. own ≡ named table.now payload.now) }
 {
     if payload.content.get() == table {
@@ -154,14 +153,14 @@ fn all_named(alloc: Global, table: &[u8], input: &[Payload]) -> Result<Items<Pay
 {
     let mut all = Vec::new(alloc);
     for payload in input {
-        let own = named(alloc, table, payload)?;
+        let own = shorten_payload(alloc, table, payload)?;
         all.push(own)?;
     }
     Ok(Items::new(all))
 }
 
 /// Returns the command, with `TABLE` instead of the table if it continues as a new run.
-fn shorter(alloc: Global, table: &[u8], command: &Command) -> Result<Command, OutOfMemory>
+fn shorten_command(alloc: Global, table: &[u8], command: &Command) -> Result<Command, OutOfMemory>
     ensures { IfOk result (λ own. own ≡ shorter table.now command.now) }
 {
     match command {
@@ -183,14 +182,14 @@ fn all_shorter(
 {
     let mut all = Vec::new(alloc);
     for command in commands {
-        let own = shorter(alloc, table, command)?;
+        let own = shorten_command(alloc, table, command)?;
         all.push(own)?;
     }
     Ok(all)
 }
 
 /// Returns the commands as a scenario writes them.
-fn given_text(alloc: Global, table: &[u8], commands: &[Command]) -> Result<Text, OutOfMemory>
+fn text_of_commands(alloc: Global, table: &[u8], commands: &[Command]) -> Result<Text, OutOfMemory>
     ensures { IfOk result (λ text. text ≡ given_text table.now commands.now) }
 {
     let all = all_shorter(alloc, table, commands)?;
@@ -203,7 +202,7 @@ fn differs(
     line: usize,
     given: Text,
     wanted: &Option<Text>,
-) -> Result<Option<Difference>, OutOfMemory>
+) -> Result<Option<TrialDifference>, OutOfMemory>
     ensures { IfOk result (λ difference. difference ≡ differs line given wanted.now) }
 {
     match wanted {
@@ -212,7 +211,7 @@ fn differs(
                 return Ok(None);
             }
             let wanted = wanted.try_copy()?;
-            Ok(Some(Difference::Gives {
+            Ok(Some(TrialDifference::Gives {
                 line,
                 given,
                 wanted,
@@ -226,16 +225,16 @@ fn differs(
 fn take_job(
     alloc: Global,
     table: &[u8],
-    run: &mut Run,
+    run: &mut TrialState,
     words: &Text,
     job: &Job,
 ) -> Result<(), OutOfMemory>
     ensures { OnOk result (seen run.new ≡ told table.now (seen run.old) words.now job.now) }
 {
     let mut given = give(alloc, table, &mut run.state, job)?;
-    let step = Step {
+    let step = TrialStep {
         words: words.try_copy()?,
-        given: given_text(alloc, table, given.as_slice())?,
+        given: text_of_commands(alloc, table, given.as_slice())?,
     };
     run.steps.push(step)?;
     run.given.append(&mut given)?;
@@ -246,15 +245,15 @@ fn take_job(
 fn end_line(
     alloc: Global,
     table: &[u8],
-    run: &mut Run,
+    run: &mut TrialState,
     line: usize,
     wanted: &Option<Text>,
-) -> Result<Option<Difference>, OutOfMemory>
+) -> Result<Option<TrialDifference>, OutOfMemory>
     ensures stop { IfOk result (λ difference.
         difference ≡ differs line (given_text table.now (seen run.old).given) wanted.now) }
     ensures run { OnOk result (seen run.new ≡ record (seen run.old) { given = [] }) }
 {
-    let given = given_text(alloc, table, run.given.as_slice())?;
+    let given = text_of_commands(alloc, table, run.given.as_slice())?;
     let difference = differs(line, given, wanted)?;
     run.given = Vec::new(alloc);
     Ok(difference)
@@ -264,9 +263,9 @@ fn end_line(
 fn take_entry(
     alloc: Global,
     table: &[u8],
-    run: &mut Run,
+    run: &mut TrialState,
     entry: &Entry,
-) -> Result<Option<Difference>, OutOfMemory>
+) -> Result<Option<TrialDifference>, OutOfMemory>
     ensures stop { IfOk result (λ difference. difference ≡ stop table.now (seen run.old) entry.now) }
     ensures run { OnOk result (seen run.new ≡ later table.now (seen run.old) entry.now) }
 {
@@ -277,7 +276,7 @@ fn take_entry(
         }
         Entry::NoJob { line, words } => {
             let words = words.try_copy()?;
-            Ok(Some(Difference::NoJob { line: *line, words }))
+            Ok(Some(TrialDifference::NoJob { line: *line, words }))
         }
         Entry::LineEnd { line, wanted } => end_line(alloc, table, run, *line, wanted),
     }
@@ -287,9 +286,9 @@ fn take_entry(
 fn take_entries(
     alloc: Global,
     table: &[u8],
-    run: &mut Run,
+    run: &mut TrialState,
     entries: &[Entry],
-) -> Result<Option<Difference>, OutOfMemory>
+) -> Result<Option<TrialDifference>, OutOfMemory>
     ensures { IfOk result (λ difference.
         ended (seen run.new) difference ≡ tried table.now (seen run.old) entries.now) }
 {
@@ -306,13 +305,13 @@ fn run_scenario(alloc: Global, table: &[u8], scenario: &str) -> Result<Trial, Ou
     ensures { IfOk result (λ own. own ≡ tried table.now begun (scenario_entries scenario.now)) }
 {
     let entries = scenario_entries(alloc, scenario)?;
-    let mut run = Run {
+    let mut run = TrialState {
         state: TableWorkflow::begin(alloc, "Table")?,
         given: Vec::new(alloc),
         steps: Vec::new(alloc),
     };
     let difference = take_entries(alloc, table, &mut run, entries.as_slice())?;
-    let Run {
+    let TrialState {
         state,
         given,
         steps,
@@ -332,7 +331,7 @@ fn no_table(alloc: Global, fault: TableFault) -> Result<Trial, OutOfMemory>
     let reason = fault_text(alloc, fault)?;
     Ok(Trial {
         steps: Items::new(Vec::new(alloc)),
-        difference: Some(Difference::NoTable { reason }),
+        difference: Some(TrialDifference::NoTable { reason }),
     })
 }
 

@@ -2,12 +2,12 @@
 ghost use Rattle.std.specs.Prelude.{◌≡◌, IfOk, string_bytes};
 ghost use Rattle.wh_table_trial.specs.Texts.{step_text, steps_text, ok_text, no_table_text, no_job_text, gives_text, end_text, trial_text};
 
-use crate::running::{Difference, Step, Trial};
+use crate::running::{Trial, TrialDifference, TrialStep};
 use std::alloc::{AllocError, Global};
 use wh_tester::Shown;
 
 /// Returns a job and its commands, as a line of a scenario.
-fn step_text(alloc: Global, step: &Step) -> Result<String, AllocError>
+fn step_text(alloc: Global, step: &TrialStep) -> Result<String, AllocError>
     ensures { IfOk result (λ text. string_bytes text ≡ step_text step.now) }
 {
     let words = step.words.get();
@@ -20,7 +20,7 @@ fn step_text(alloc: Global, step: &Step) -> Result<String, AllocError>
 }
 
 /// Returns jobs and their commands, as lines of a scenario.
-fn steps_text(alloc: Global, steps: &[Step]) -> Result<String, AllocError>
+fn steps_text(alloc: Global, steps: &[TrialStep]) -> Result<String, AllocError>
     ensures { IfOk result (λ text. string_bytes text ≡ steps_text steps.now) }
 {
     let mut text = String::new(alloc);
@@ -76,10 +76,15 @@ fn end_text(alloc: Global, name: &str, own: &Trial) -> Result<String, AllocError
 {
     match &own.difference {
         None => ok_text(alloc, name, own.steps.get().len()),
-        Some(Difference::NoTable { reason }) => no_table_text(alloc, name, reason.get()),
-        Some(Difference::NoJob { line, words }) => no_job_text(alloc, name, *line, words.get()),
+        Some(TrialDifference::NoTable { reason }) => no_table_text(alloc, name, reason.get()),
+        Some(TrialDifference::NoJob { line, words }) => no_job_text(
+            alloc,
+            name,
+            *line,
+            words.get(),
+        ),
         Some(
-            Difference::Gives {
+            TrialDifference::Gives {
                 line,
                 given,
                 wanted,

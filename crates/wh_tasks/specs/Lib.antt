@@ -2,3 +2,8 @@ pub mod Failures
 pub mod Numbers
 pub mod Source
 pub mod Tasks
+pub mod WithHeartbeat
+pub mod Cells
+pub mod Infos
+pub mod Pace
+pub mod Throttling

@@ -1,12 +1,10 @@
-//! Activity handlers, and gates that workflow tasks pass before they are replayed.
+//! Activity handlers.
 ghost use Rattle.std.specs.Prelude.{IfOk};
 
 use crate::failure::ActivityFailure;
 use crate::source::{ActivityAnswer, ActivityTask};
 use std::alloc::Global;
-use std::sync::Wait;
 use wh_events::{OutOfMemory, Text};
-use wh_slots::TaskName;
 
 /// Runs activities, one handler for each worker. Contracts see which answers an activity may give,
 /// and that a handler which passes tasks on to another one runs each of them once.
@@ -32,14 +30,6 @@ pub trait ActivityHandler {
         ensures may { SameMay (may self.old) (may self.new) };
 }
 
-/// A gate that each workflow task passes right before it is replayed, while no lock of the host is
-/// held. It may wait, so that a test can make two tasks overlap. The worker goes on only when the
-/// call returns.
-pub trait Gate {
-    /// Returns when the task may go on, at once or later.
-    fn enter<R: Wait>(&self, rt: &R, name: TaskName);
-}
-
 /// The handler of a worker that has no activities: it fails each task with the message "no
 /// activities", as one of a type that it does not know.
 #[derive(Drop)]
@@ -60,12 +50,4 @@ impl ActivityHandler for NoActivities {
         let failure = ActivityFailure::not_found(self.alloc, Text::new(reason))?;
         Ok(ActivityAnswer::Failed(failure))
     }
-}
-
-/// The gate that lets each task go on at once.
-#[derive(Drop)]
-pub struct OpenGate;
-
-impl Gate for OpenGate {
-    fn enter<R: Wait>(&self, _rt: &R, _name: TaskName) {}
 }

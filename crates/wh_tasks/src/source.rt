@@ -177,8 +177,8 @@ pub trait TaskSource {
         ensures keeps { KeepsSource delivers fetches comes_from self.old self.new };
 
     /// Sends the answer to the workflow task of a name. After a fault it was not accepted.
-    fn answer_workflow(&mut self, name: TaskName, answer: &Answer) -> Result<(), SourceFault>
-        ensures sent { OnOk result (answers self.new ≡ answers self.old ++ (name, OfWorkflow answer.now) ∷ []) }
+    fn answer_workflow(&mut self, name: TaskName, answer: Answer) -> Result<(), SourceFault>
+        ensures sent { OnOk result (answers self.new ≡ answers self.old ++ (name, OfWorkflow answer) ∷ []) }
         ensures unsent { OnErr result (answers self.new ≡ answers self.old) }
         ensures failures { FailsOnly result (failures self.old) (failures self.new) }
         ensures keeps { KeepsSource delivers fetches comes_from self.old self.new };
@@ -194,12 +194,12 @@ pub trait TaskSource {
     fn answer_replayed(
         &mut self,
         name: TaskName,
-        answer: &Answer,
+        answer: Answer,
         events: &[Event],
         steps: u64,
     ) -> Acceptance
-        ensures hears { hears self.old name answer.now events.now steps result self.new }
-        ensures sent { OnOk result.sent (answers self.new ≡ answers self.old ++ (name, OfWorkflow answer.now) ∷ []) }
+        ensures hears { hears self.old name answer events.now steps result self.new }
+        ensures sent { OnOk result.sent (answers self.new ≡ answers self.old ++ (name, OfWorkflow answer) ∷ []) }
         ensures unsent { OnErr result.sent (answers self.new ≡ answers self.old) }
         ensures run { result.run ≡ RunUse.Cache → caches self.new name }
         ensures failures { FailsOnly result.sent (failures self.old) (failures self.new) }
@@ -211,12 +211,8 @@ pub trait TaskSource {
         ensures { result ≡ RunUse.Cache → CachesAll caches self.now };
 
     /// Sends the answer to the activity task of a name. After a fault it was not accepted.
-    fn answer_activity(
-        &mut self,
-        name: TaskName,
-        answer: &ActivityAnswer,
-    ) -> Result<(), SourceFault>
-        ensures sent { OnOk result (answers self.new ≡ answers self.old ++ (name, OfActivity answer.now) ∷ []) }
+    fn answer_activity(&mut self, name: TaskName, answer: ActivityAnswer) -> Result<(), SourceFault>
+        ensures sent { OnOk result (answers self.new ≡ answers self.old ++ (name, OfActivity answer) ∷ []) }
         ensures unsent { OnErr result (answers self.new ≡ answers self.old) }
         ensures failures { FailsOnly result (failures self.old) (failures self.new) }
         ensures keeps { KeepsSource delivers fetches comes_from self.old self.new };

@@ -27,8 +27,8 @@ use Rattle.wh_tester.specs.Faults.{place_fault_name, workflow_fault_name, replay
 use Rattle.wh_tester.specs.Report.{shown_char, shown, event_of, fault_text, good_count}
 use Rattle.wh_tester.specs.Json.{escaped_char, escaped, text_member, plain_member, following, object, event_members, verdict_members}
 use Rattle.wh_tester.specs.JsonReading.{event_json, subject_json, verdict_json, line_json, IsSmall, HasSmallNumbers, ReadsAs, LinesReadBack, TotalsReadBack}
-use Rattle.wh_verdict.specs.declared.line.Verdict.{Verdict}
-use Rattle.wh_verdict.specs.declared.line.Verdict.TheVariants as verdicts
+use Rattle.wh_tester.specs.declared.line.Verdict.{Verdict}
+use Rattle.wh_tester.specs.declared.line.Verdict.TheVariants as verdicts
 
 -- ---- characters that need no other escape
 

@@ -17,8 +17,8 @@ use Rattle.wh_json.specs.declared.fault.ReadFault.TheVariants as read_faults
 use Rattle.wh_replay.specs.declared.fault.Fault.{Fault}
 use Rattle.wh_replay.specs.declared.fault.Fault.TheVariants as faults
 use Rattle.wh_tester.specs.Faults.{place_fault_name, workflow_fault_name, mismatch_text, replay_fault_text}
-use Rattle.wh_verdict.specs.declared.line.Verdict.{Verdict}
-use Rattle.wh_verdict.specs.declared.line.Verdict.TheVariants as verdicts
+use Rattle.wh_tester.specs.declared.line.Verdict.{Verdict}
+use Rattle.wh_tester.specs.declared.line.Verdict.TheVariants as verdicts
 use Rattle.wh_tester.specs.Report.{shown_char, shown, event_of, fault_text}
 use Rattle.wh_tester.specs.Private.Report.{words_of, name_of, event_text}
 use Rattle.wh_tester.specs.Json.{escaped_char, escaped, text_member, following, subject_members, verdict_members}

@@ -7,9 +7,9 @@ use Rattle.wh_replay.specs.declared.fault.Fault.{Fault}
 use Rattle.wh_replay.specs.declared.fault.Fault.TheVariants as faults
 use Rattle.wh_tester.specs.Faults.{replay_fault_text}
 use Rattle.wh_tester.specs.Report.{shown, event_of, fault_text, good_count}
-use Rattle.wh_verdict.specs.declared.line.Verdict.{Verdict}
-use Rattle.wh_verdict.specs.declared.line.Verdict.TheVariants as verdicts
-use Rattle.wh_verdict.specs.declared.line.Line.{Line}
+use Rattle.wh_tester.specs.declared.line.Verdict.{Verdict}
+use Rattle.wh_tester.specs.declared.line.Verdict.TheVariants as verdicts
+use Rattle.wh_tester.specs.declared.line.Line.{Line}
 
 -- a character in a string of JSON: `"` and `\` come after a `\`
 abbrev pub escaped_char : ℕ → List ℕ

@@ -7,9 +7,9 @@ use Rattle.wh_replay.specs.declared.fault.Fault.TheVariants as faults
 use Rattle.wh_tester.specs.Faults.{replay_fault_text}
 use Rattle.wh_tester.specs.Report.{shown, event_of, fault_text, good_count}
 use Rattle.wh_tester.specs.Json.{json_line, json_totals}
-use Rattle.wh_verdict.specs.declared.line.Verdict.{Verdict}
-use Rattle.wh_verdict.specs.declared.line.Verdict.TheVariants as verdicts
-use Rattle.wh_verdict.specs.declared.line.Line.{Line}
+use Rattle.wh_tester.specs.declared.line.Verdict.{Verdict}
+use Rattle.wh_tester.specs.declared.line.Verdict.TheVariants as verdicts
+use Rattle.wh_tester.specs.declared.line.Line.{Line}
 
 -- the event that a fault of reading is about, before other members
 abbrev pub event_json : Option ℕ → Members → Members

@@ -4,16 +4,15 @@ ghost use Rattle.std.specs.Prelude.{◌≡◌, ◌∷◌, ◌++◌, [], Some, On
 ghost use Rattle.std.specs.Fmt.{DisplaysOnOk};
 ghost use Rattle.std.specs.Io.KnownBytes.{Appends};
 ghost use Rattle.wh_tester.specs.Report.{shown, fault_text};
-ghost use Rattle.wh_tester.specs.Json.{escaped_char, escaped, following, event_members, subject_members};
-ghost use Rattle.wh_tester.specs.Json.{verdict_members, json_line, open_line, totals_object};
+ghost use Rattle.wh_tester.specs.Json.{escaped_char, escaped, following, event_members, subject_members, verdict_members, json_line, open_line, totals_object};
 
 use crate::faults::ReplayFaultText;
 use crate::report::{EventText, event_of, name_of, shown_char, words_of};
+use crate::{Line, Verdict};
 use std::io::Write;
 use std::{fmt, io};
 use wh_json::ReadFault;
 use wh_replay::Fault;
-use wh_verdict::{Line, Verdict};
 use wh_workflow::Mismatch;
 
 /// Returns what comes before a character in a string of JSON: a `\` before `"` and `\`.

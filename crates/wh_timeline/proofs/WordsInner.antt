@@ -4,8 +4,8 @@ use Rattle.std.specs.List.{list_all}
 use Rattle.wh_html.proofs.Alike.{is_inner}
 use Rattle.wh_timeline.specs.declared.page.Kind.{Kind}
 use Rattle.wh_timeline.specs.declared.page.Kind.TheVariants.{Activity, Timer, Child, Signal, Request, Marker}
-use Rattle.wh_timeline.specs.declared.page.Outcome.{Outcome}
-use Rattle.wh_timeline.specs.declared.page.Outcome.TheVariants.{Open, Done, Failed, Canceled}
+use Rattle.wh_timeline.specs.declared.page.ThingOutcome.{ThingOutcome}
+use Rattle.wh_timeline.specs.declared.page.ThingOutcome.TheVariants.{Open, Done, Failed, Canceled}
 use Rattle.wh_timeline.specs.declared.page.Side.{Side}
 use Rattle.wh_timeline.specs.declared.page.Side.TheVariants.{Told, Gives, Recorded, Fault, Note}
 use Rattle.wh_timeline.specs.Words.{kind_word, outcome_class, side_word}
@@ -19,7 +19,7 @@ kind-inner Signal = refl
 kind-inner Request = refl
 kind-inner Marker = refl
 
-pub outcome-inner : (outcome : Outcome) → list_all is_inner (outcome_class outcome) ≡ true
+pub outcome-inner : (outcome : ThingOutcome) → list_all is_inner (outcome_class outcome) ≡ true
 outcome-inner Open = refl
 outcome-inner Done = refl
 outcome-inner Failed = refl

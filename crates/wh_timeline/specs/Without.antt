@@ -4,7 +4,7 @@ use Rattle.std.specs.Option.{option_map}
 use Rattle.wh_timeline.specs.declared.page.Fact.{Fact}
 use Rattle.wh_timeline.specs.declared.page.Difference.{Difference}
 use Rattle.wh_timeline.specs.declared.page.Lane.{Lane}
-use Rattle.wh_timeline.specs.declared.page.Line.{Line}
+use Rattle.wh_timeline.specs.declared.page.TaskLine.{TaskLine}
 use Rattle.wh_timeline.specs.declared.page.Task.{Task}
 use Rattle.wh_timeline.specs.declared.page.Page.{Page}
 
@@ -18,7 +18,7 @@ without_difference difference = record difference { code = []; history = [] }
 abbrev pub without_lane : Lane → Lane
 without_lane lane = record lane { name = []; type_name = option_map (λ _. []) lane.type_name; words = [] }
 
-abbrev pub without_line : Line → Line
+abbrev pub without_line : TaskLine → TaskLine
 without_line line = record line { text = [] }
 
 abbrev pub without_task : Task → Task

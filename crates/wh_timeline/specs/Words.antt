@@ -2,8 +2,8 @@
 use Rattle.std.specs.Prelude.{ℕ, List, codes}
 use Rattle.wh_timeline.specs.declared.page.Kind.{Kind}
 use Rattle.wh_timeline.specs.declared.page.Kind.TheVariants.{Activity, Timer, Child, Signal, Request, Marker}
-use Rattle.wh_timeline.specs.declared.page.Outcome.{Outcome}
-use Rattle.wh_timeline.specs.declared.page.Outcome.TheVariants.{Open, Done, Failed, Canceled}
+use Rattle.wh_timeline.specs.declared.page.ThingOutcome.{ThingOutcome}
+use Rattle.wh_timeline.specs.declared.page.ThingOutcome.TheVariants.{Open, Done, Failed, Canceled}
 use Rattle.wh_timeline.specs.declared.page.Side.{Side}
 use Rattle.wh_timeline.specs.declared.page.Side.TheVariants.{Told, Gives, Recorded, Fault, Note}
 
@@ -17,7 +17,7 @@ kind_word Request = codes "request"
 kind_word Marker = codes "marker"
 
 -- the outcome of a thing, as a class of the style sheet
-abbrev pub outcome_class : Outcome → List ℕ
+abbrev pub outcome_class : ThingOutcome → List ℕ
 outcome_class Open = codes "open"
 outcome_class Done = codes "done"
 outcome_class Failed = codes "failed"

@@ -180,7 +180,7 @@ fn whole_of(times: &[u64], longest: u64) -> u64
 
 /// Returns half of `longest` if it is more than half of the length of all steps together, and
 /// `longest` otherwise.
-fn shorter(times: &[u64], longest: u64) -> u64
+fn shorter_step(times: &[u64], longest: u64) -> u64
     ensures { result ≡ shorter times.now longest }
 {
     if longest <= whole_of(times, longest) / 2 {
@@ -192,12 +192,12 @@ fn shorter(times: &[u64], longest: u64) -> u64
 
 /// Returns the longest step after up to `halvings` halvings.
 #[tactic(auto, unfolding(crate::specs::Axes::shortened))]
-fn shortened(times: &[u64], halvings: usize, all: u64) -> u64
+fn halve_longest(times: &[u64], halvings: usize, all: u64) -> u64
     ensures { result ≡ shortened times.now halvings all }
 {
     let mut longest = all;
     for halving in 0..halvings {
-        longest = shorter(times, longest);
+        longest = shorter_step(times, longest);
     }
     longest
 }
@@ -209,7 +209,7 @@ fn longest_of(times: &[u64]) -> u64
 {
     let all = last_of(times).saturating_sub(first_of(times));
     if 3 <= steps_of(times) {
-        shortened(times, 64, all)
+        halve_longest(times, 64, all)
     } else {
         all
     }
@@ -254,7 +254,7 @@ fn gap_of(from: u64, step: u64, longest: u64) -> Option<Gap>
 
 /// The steps up to a time.
 #[derive(Clone, Copy)]
-struct Way {
+struct AxisPath {
     /// How many there are.
     steps: u64,
     /// Their length together, each counted as the longest that is drawn to scale at most.
@@ -288,7 +288,7 @@ fn next_free(free: u64, x: u64) -> u64
 }
 
 /// Returns the path to the next time.
-fn way_to(way: Way, millis: u64, scale: Scale) -> Way
+fn way_to(way: AxisPath, millis: u64, scale: Scale) -> AxisPath
     requires { way.x ≤ right }
     ensures time { result.millis ≡ millis }
     ensures steps { result.steps ≡ steps_to way.steps (millis - way.millis) }
@@ -309,7 +309,7 @@ fn way_to(way: Way, millis: u64, scale: Scale) -> Way
         place_after(steps, length, millis, scale).max(way.x)
     };
     let free = next_free(way.free, x);
-    Way {
+    AxisPath {
         steps,
         length,
         millis,
@@ -319,7 +319,7 @@ fn way_to(way: Way, millis: u64, scale: Scale) -> Way
 }
 
 /// Returns the stop at the end of a path, given the path to the stop before.
-fn stop_at(before: Way, way: Way, scale: Scale) -> Stop
+fn stop_at(before: AxisPath, way: AxisPath, scale: Scale) -> Stop
     ensures time { result.millis ≡ way.millis }
     ensures place { result.x ≡ way.x }
     ensures gap { result.gap ≡ gap_of before.x (way.millis - before.millis) scale.longest }
@@ -347,7 +347,7 @@ fn stops_of(alloc: Global, times: &[u64], scale: Scale) -> Result<Vec<Stop>, Out
     ensures marks { IfOk result (λ stops. Marks left stops.items) }
 {
     let mut stops = Vec::new(alloc);
-    let mut way = Way {
+    let mut way = AxisPath {
         steps: 0,
         length: 0,
         millis: first_of(times),

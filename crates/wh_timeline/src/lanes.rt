@@ -9,7 +9,7 @@ use crate::axis::{RIGHT, Stop, place_of};
 use crate::page::{Kind, Lane, Moment};
 use std::fmt;
 use wh_events::Text;
-use wh_html::{Escaped, Span, Stamp};
+use wh_html::{Escaped, Stamp, TimeSpan};
 
 /// The height of a lane, in units of the picture.
 pub(crate) const HEIGHT: u64 = 22;
@@ -47,10 +47,10 @@ pub(crate) fn hit_class(hit: bool) -> &'static str
 }
 
 /// Returns how long it took from one event to another; 0 if the second is earlier.
-pub fn took(from: Moment, to: Moment) -> Span
+pub fn time_between(from: Moment, to: Moment) -> TimeSpan
     ensures { result.0 ≡ to.millis - from.millis }
 {
-    Span(to.millis.saturating_sub(from.millis))
+    TimeSpan(to.millis.saturating_sub(from.millis))
 }
 
 /// An event and its time, after the words for what happened.
@@ -83,7 +83,7 @@ impl fmt::Display for After {
     fn fmt<W: fmt::Write>(&self, f: &mut fmt::Formatter<W>) -> fmt::Result {
         match self.1 {
             Some(ended) => {
-                let span = took(self.0, ended);
+                let span = time_between(self.0, ended);
                 write!(f, ", after {span}")
             }
             None => Ok(()),
@@ -232,9 +232,9 @@ impl fmt::Display for Classes<'_> {
 
 /// The outcome of a thing in words, beside its bar.
 #[derive(Drop)]
-struct Said<'a>(&'a Text);
+struct OutcomeWords<'a>(&'a Text);
 
-impl fmt::Display for Said<'_> {
+impl fmt::Display for OutcomeWords<'_> {
     ghost output = { λ s. Some (bytes (said_html s.0.now)) };
 
     fn fmt<W: fmt::Write>(&self, f: &mut fmt::Formatter<W>) -> fmt::Result {
@@ -268,7 +268,7 @@ impl fmt::Display for LaneRow<'_> {
             most: 25,
         };
         let sign = Sign(self.stops, self.lane);
-        let said = Said(&self.lane.words);
+        let said = OutcomeWords(&self.lane.words);
         write!(
             f,
             "<g class=\"lane {classes}\" transform=\"translate(0 {y})\">{title}<rect class=\"room\" width=\"1000\" height=\"22\"/><text x=\"12\" y=\"15\">{name}</text>{sign}{said}</g>\n"

@@ -10,7 +10,7 @@ mod picture;
 mod view;
 
 pub use axis::{Axis, Gap, Stop, axis_of};
-pub use lanes::{Classes, took};
-pub use page::{Difference, Fact, Kind, Lane, Line, Moment, Outcome, Page, Side, Task};
+pub use lanes::{Classes, time_between};
+pub use page::{Difference, Fact, Kind, Lane, Moment, Page, Side, Task, TaskLine, ThingOutcome};
 pub use picture::Picture;
 pub use view::{first_items, shown_lanes, shown_tasks};

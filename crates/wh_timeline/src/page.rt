@@ -34,7 +34,7 @@ pub enum Kind {
 
 /// The outcome of a thing.
 #[derive(Clone, Copy)]
-pub enum Outcome {
+pub enum ThingOutcome {
     /// It has not ended.
     Open,
     /// It ended as intended.
@@ -62,7 +62,7 @@ pub struct Lane {
     /// it.
     pub ended: Option<Moment>,
     /// Its outcome.
-    pub outcome: Outcome,
+    pub outcome: ThingOutcome,
     /// Its outcome in words: `completed`, or the text of its failure.
     pub words: Text,
     /// How often it was attempted, if the history has that.
@@ -86,7 +86,7 @@ pub enum Side {
 
 /// A line of a task.
 #[derive(Drop)]
-pub struct Line {
+pub struct TaskLine {
     /// Its side.
     pub side: Side,
     /// The number of the event that it is about, if there is one.
@@ -103,7 +103,7 @@ pub struct Task {
     /// The event that started it.
     pub started: Moment,
     /// Its lines.
-    pub lines: Items<Line>,
+    pub lines: Items<TaskLine>,
     /// Whether it is the one with the fault.
     pub faulty: bool,
 }
@@ -167,16 +167,16 @@ impl Kind {
     }
 }
 
-impl Outcome {
+impl ThingOutcome {
     /// Returns its class in the style sheet.
     pub fn class(self) -> &'static str
         ensures { result.now ≡ outcome_class self }
     {
         match self {
-            Outcome::Open => "open",
-            Outcome::Done => "done",
-            Outcome::Failed => "failed",
-            Outcome::Canceled => "canceled",
+            ThingOutcome::Open => "open",
+            ThingOutcome::Done => "done",
+            ThingOutcome::Failed => "failed",
+            ThingOutcome::Canceled => "canceled",
         }
     }
 }

@@ -8,7 +8,7 @@ use crate::axis::{Gap, Stop, place_of};
 use crate::lanes::{HEIGHT, LaneRows, hit_class};
 use crate::page::{Lane, Moment, Task};
 use std::fmt;
-use wh_html::{Escaped, Span, Stamp};
+use wh_html::{Escaped, Stamp, TimeSpan};
 
 /// Where the first lane begins, in units of the picture from the top.
 const TOP: u64 = 70;
@@ -48,12 +48,12 @@ impl fmt::Display for Undrawn {
 
 /// The beginning of a picture.
 #[derive(Clone, Copy)]
-struct Opening {
+struct PictureStart {
     lanes: usize,
     total: usize,
 }
 
-impl fmt::Display for Opening {
+impl fmt::Display for PictureStart {
     ghost output = { λ o. Some (bytes (opening_html o.lanes o.total)) };
 
     fn fmt<W: fmt::Write>(&self, f: &mut fmt::Formatter<W>) -> fmt::Result {
@@ -84,7 +84,7 @@ impl fmt::Display for GapWord {
     fn fmt<W: fmt::Write>(&self, f: &mut fmt::Formatter<W>) -> fmt::Result {
         if GAP_WORD <= self.to.saturating_sub(self.from) {
             let x = self.from / 2 + self.to / 2;
-            let span = Span(self.millis);
+            let span = TimeSpan(self.millis);
             write!(f, "<text class=\"scale\" x=\"{x}\" y=\"34\">{span}</text>")
         } else {
             Ok(())
@@ -106,7 +106,7 @@ impl fmt::Display for Before {
     fn fmt<W: fmt::Write>(&self, f: &mut fmt::Formatter<W>) -> fmt::Result {
         match self.gap {
             Some(gap) => {
-                let span = Span(gap.millis);
+                let span = TimeSpan(gap.millis);
                 let from = gap.from;
                 let width = self.to.saturating_sub(from);
                 let height = self.bottom.saturating_sub(20);
@@ -127,20 +127,20 @@ impl fmt::Display for Before {
 
 /// A mark of the scale, with the time since the first stop; nothing if the stop has no mark.
 #[derive(Drop)]
-struct Mark<'a> {
+struct ScaleMark<'a> {
     bottom: u64,
     first: u64,
     stop: &'a Stop,
 }
 
-impl fmt::Display for Mark<'_> {
+impl fmt::Display for ScaleMark<'_> {
     ghost output = { λ m. Some (bytes (mark_at_html m.bottom m.first m.stop.now)) };
 
     fn fmt<W: fmt::Write>(&self, f: &mut fmt::Formatter<W>) -> fmt::Result {
         if self.stop.marked {
             let x = self.stop.x;
             let bottom = self.bottom;
-            let span = Span(self.stop.millis.saturating_sub(self.first));
+            let span = TimeSpan(self.stop.millis.saturating_sub(self.first));
             write!(
                 f,
                 "<text class=\"scale\" x=\"{x}\" y=\"14\">+{span}</text><line class=\"grid\" x1=\"{x}\" x2=\"{x}\" y1=\"20\" y2=\"{bottom}\"/>\n"
@@ -153,13 +153,13 @@ impl fmt::Display for Mark<'_> {
 
 /// The gaps and the marks of the scale at stops.
 #[derive(Drop)]
-struct Scale<'a> {
+struct ScaleMarks<'a> {
     bottom: u64,
     first: u64,
     stops: &'a [Stop],
 }
 
-impl fmt::Display for Scale<'_> {
+impl fmt::Display for ScaleMarks<'_> {
     ghost output = { λ s. Some (bytes (each (stop_html s.bottom s.first) s.stops.now)) };
 
     fn fmt<W: fmt::Write>(&self, f: &mut fmt::Formatter<W>) -> fmt::Result {
@@ -169,7 +169,7 @@ impl fmt::Display for Scale<'_> {
                 to: stop.x,
                 gap: stop.gap,
             };
-            let mark = Mark {
+            let mark = ScaleMark {
                 bottom: self.bottom,
                 first: self.first,
                 stop,
@@ -281,11 +281,11 @@ impl fmt::Display for Picture<'_> {
     #[tactic(auto, unfolding(crate::specs::Pictures::picture_html))]
     fn fmt<W: fmt::Write>(&self, f: &mut fmt::Formatter<W>) -> fmt::Result {
         let bottom = bottom_of(self.lanes.len());
-        let opening = Opening {
+        let opening = PictureStart {
             lanes: self.lanes.len(),
             total: self.total,
         };
-        let scale = Scale {
+        let scale = ScaleMarks {
             bottom,
             first: first_time(self.stops),
             stops: self.stops,

@@ -33,7 +33,7 @@ pub fn first_items<T>(items: &[T], most: usize) -> &[T]
 }
 
 /// Returns the items that are shown if the first `left` are left out.
-fn shown<T>(items: &[T], left: usize) -> &[T]
+fn shown_items<T>(items: &[T], left: usize) -> &[T]
     requires { left ≤ length items.now }
     ensures { result.now ≡ shown left items.now }
 {
@@ -95,7 +95,7 @@ pub fn shown_lanes(page: &Page) -> &[Lane]
 {
     let lanes = page.lanes.get();
     let at = lanes_at(lanes, page.fault);
-    shown(lanes, left_out(lanes.len(), at))
+    shown_items(lanes, left_out(lanes.len(), at))
 }
 
 /// Returns the tasks that a page shows: the 300 around the event of the fault, of which 200 start
@@ -106,5 +106,5 @@ pub fn shown_tasks(page: &Page) -> &[Task]
 {
     let tasks = page.tasks.get();
     let at = tasks_before(tasks, middle(page.fault));
-    shown(tasks, left_out(tasks.len(), at))
+    shown_items(tasks, left_out(tasks.len(), at))
 }

@@ -14,8 +14,8 @@ use Rattle.wh_view.specs.declared.view.ThingKind.TheVariants as kinds
 use Rattle.wh_view.specs.declared.view.ViewedEvent.{ViewedEvent}
 use Rattle.wh_view.specs.declared.parts.Part.{Part}
 use Rattle.wh_view.specs.declared.parts.Part.TheVariants as parts
-use Rattle.wh_view.specs.declared.parts.Word.{Word}
-use Rattle.wh_view.specs.declared.parts.Word.TheVariants as words
+use Rattle.wh_view.specs.declared.parts.EventUse.{EventUse}
+use Rattle.wh_view.specs.declared.parts.EventUse.TheVariants as words
 
 -- the kind of thing that is opened under an id
 abbrev pub kind_of_thing : Thing → ThingKind
@@ -62,7 +62,7 @@ unfoldable pub completes_task : ViewedEvent → Bool
 completes_task event = completing_kind event.read.kind
 
 -- how an event of the class concerns the workflow, the completion of a task aside
-abbrev pub class_word : Class → Word
+abbrev pub class_word : Class → EventUse
 class_word Start = words.Told
 class_word Outside = words.Told
 class_word Commanded = words.Gives
@@ -71,18 +71,18 @@ class_word Inert = words.Other
 class_word Close = words.Other
 
 -- how an event of the kind concerns the workflow: the start of an activity by a worker is no activation job
-abbrev pub word_of_kind : EventKind → Word
+abbrev pub word_of_kind : EventKind → EventUse
 word_of_kind WorkflowTaskCompleted = words.Completes
 word_of_kind (ActivityTaskStarted _) = words.Other
 word_of_kind kind = class_word (class_of kind)
 
 -- how an event concerns its workflow, if its type is supported
-abbrev pub word_by : Option EventKind → Word
+abbrev pub word_by : Option EventKind → EventUse
 word_by None = words.Other
 word_by (Some kind) = word_of_kind kind
 
 -- how an event of a view concerns its workflow
-unfoldable pub word_of : ViewedEvent → Word
+unfoldable pub word_of : ViewedEvent → EventUse
 word_of event = word_by event.read.kind
 
 -- the kinds of things, each by a number of its own

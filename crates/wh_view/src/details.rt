@@ -89,7 +89,7 @@ fn text_in(bytes: Vec<u8>) -> Option<Text>
 }
 
 /// Decodes base64, and returns the text that it holds, if it holds one.
-fn decoded(alloc: Global, content: &str) -> Result<Option<Text>, OutOfMemory>
+fn base64_text(alloc: Global, content: &str) -> Result<Option<Text>, OutOfMemory>
     ensures { IfOk result (λ text. text ≡ decoded content.now) }
 {
     match STANDARD.decode(alloc, content.as_bytes()) {
@@ -107,7 +107,7 @@ fn decoded_text(alloc: Global, payload: &Value) -> Result<Option<Text>, OutOfMem
         return Ok(None);
     };
     match content.as_str() {
-        Some(content) => decoded(alloc, content),
+        Some(content) => base64_text(alloc, content),
         None => Ok(None),
     }
 }

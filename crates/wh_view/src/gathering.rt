@@ -192,7 +192,7 @@ impl Gathering {
 
 /// Gathers the things of all events.
 #[tactic(auto, unfolding(crate::specs::Things::gathered_from))]
-pub(crate) fn gathered(alloc: Global, events: &[ViewedEvent]) -> Result<Gathering, OutOfMemory>
+pub(crate) fn gather_all(alloc: Global, events: &[ViewedEvent]) -> Result<Gathering, OutOfMemory>
     ensures { IfOk result (λ g. g ≡ things.gathered events.now) }
 {
     let mut gathering = Gathering::new(alloc);

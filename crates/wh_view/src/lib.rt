@@ -11,6 +11,6 @@ mod reading;
 mod unsupported;
 mod view;
 
-pub use parts::{Part, Word};
-pub use reading::view_of;
+pub use parts::{EventUse, Part};
+pub use reading::{view_members, view_of};
 pub use view::{ThingKind, UnsupportedKind, View, ViewedEvent, ViewedThing};

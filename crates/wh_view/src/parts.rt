@@ -34,7 +34,7 @@ pub enum Part {
 
 /// How an event concerns the workflow and its worker.
 #[derive(Clone, Copy)]
-pub enum Word {
+pub enum EventUse {
     /// It becomes an activation job of the next task (`told` in reports).
     Told,
     /// It records a command with which the workflow completed its task (`gives` in reports).
@@ -126,23 +126,23 @@ impl ViewedEvent {
 }
 
 /// Returns how an event of the class concerns the workflow, the completion of a task aside.
-fn class_word(class: Class) -> Word
+fn class_word(class: Class) -> EventUse
     ensures { result ≡ class_word class }
 {
     match class {
-        Class::Start | Class::Outside => Word::Told,
-        Class::Commanded => Word::Gives,
-        Class::Task | Class::Inert | Class::Close => Word::Other,
+        Class::Start | Class::Outside => EventUse::Told,
+        Class::Commanded => EventUse::Gives,
+        Class::Task | Class::Inert | Class::Close => EventUse::Other,
     }
 }
 
 /// Returns how an event of the kind concerns the workflow.
-fn word_of_kind(kind: &EventKind) -> Word
+fn word_of_kind(kind: &EventKind) -> EventUse
     ensures { result ≡ word_of_kind kind.now }
 {
     match kind {
-        EventKind::WorkflowTaskCompleted => Word::Completes,
-        EventKind::ActivityTaskStarted { .. } => Word::Other,
+        EventKind::WorkflowTaskCompleted => EventUse::Completes,
+        EventKind::ActivityTaskStarted { .. } => EventUse::Other,
         _ => class_word(kind.class()),
     }
 }
@@ -156,12 +156,12 @@ impl ViewedEvent {
     /// activity, a timer, a child workflow or a request, but not the start of an activity by a
     /// worker.
     #[tactic(auto, unfolding(crate::specs::Parts::word_of))]
-    pub fn word(&self) -> Word
+    pub fn word(&self) -> EventUse
         ensures { result ≡ word_of self.now }
     {
         match &self.read.kind {
             Some(kind) => word_of_kind(kind),
-            None => Word::Other,
+            None => EventUse::Other,
         }
     }
 }

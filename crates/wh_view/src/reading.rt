@@ -6,7 +6,7 @@ ghost use Rattle.wh_json.specs.Partial.{partial_event};
 ghost use Rattle.wh_view.specs.Views as views;
 
 use crate::details::{attempt_of, duration_of, failure_of, json_of, payload_texts};
-use crate::gathering::gathered;
+use crate::gathering::gather_all;
 use crate::unsupported::unsupported_kinds;
 use crate::view::{View, ViewedEvent};
 use serde_json::Value;
@@ -15,7 +15,7 @@ use wh_events::{EventNo, Items, OutOfMemory, Text};
 use wh_json::{ReadFault, attributes_in, events_in, field, partial_event, read_document, text_of};
 
 /// Copies a text.
-fn copied(alloc: Global, text: &str) -> Result<Text, OutOfMemory>
+fn copy_text(alloc: Global, text: &str) -> Result<Text, OutOfMemory>
     ensures { IfOk result (λ copy. copy ≡ text.now) }
 {
     Ok(Text::new(String::from_str(alloc, text)?))
@@ -33,9 +33,9 @@ fn event_of(
     ensures read { IfOk result (λ event. event.read ≡ partial_event place before (view member.now)) }
 {
     let attributes = attributes_in(member);
-    let moment = copied(alloc, text_of(field(Some(member), "eventTime")))?;
-    let failure = copied(alloc, failure_of(attributes))?;
-    let duration = copied(alloc, duration_of(attributes))?;
+    let moment = copy_text(alloc, text_of(field(Some(member), "eventTime")))?;
+    let failure = copy_text(alloc, failure_of(attributes))?;
+    let duration = copy_text(alloc, duration_of(attributes))?;
     let payloads = Items::new(payload_texts(alloc, attributes)?);
     let json = json_of(alloc, member)?;
     let read = partial_event(alloc, place, before, member)?;
@@ -101,14 +101,15 @@ fn tasks(alloc: Global, events: &[ViewedEvent]) -> Result<Vec<usize>, OutOfMemor
     Ok(tasks)
 }
 
-/// Views the members of a history's list.
-fn view_members(alloc: Global, members: &[Value]) -> Result<View, OutOfMemory>
+/// Views the members of a history's list that are parsed already, as `view_of` views them. The list
+/// may be empty.
+pub fn view_members(alloc: Global, members: &[Value]) -> Result<View, OutOfMemory>
     ensures { IfOk result (views.IsViewOf (map view members.now)) }
 {
     let events = events_of(alloc, members)?;
     let tasks = tasks(alloc, events.as_slice())?;
     let unsupported = unsupported_kinds(alloc, events.as_slice())?;
-    let (things, links) = gathered(alloc, events.as_slice())?.into_parts();
+    let (things, links) = gather_all(alloc, events.as_slice())?.into_parts();
     Ok(View {
         events: Items::new(events),
         things,

@@ -1,7 +1,7 @@
 -- A view as lines of JSON: an object for each event.
 use Rattle.std.specs.Prelude.{ℕ, List, [], ◌∷◌, ◌++◌, length, codes, decimal, Option, Some, None, slice_get, option_map, option_and_then, if◌then◌else◌}
 use Rattle.std.specs.List.{flat_map}
-use Rattle.wh_view_report.specs.declared.text.Span.{Span}
+use Rattle.wh_view_report.specs.declared.text.TaskRange.{TaskRange}
 use Rattle.wh_view_report.specs.declared.text.Selection.{Selection}
 use Rattle.wh_view.specs.declared.view.ThingKind.{ThingKind}
 use Rattle.wh_view.specs.declared.view.ThingKind.TheVariants as kinds
@@ -10,8 +10,8 @@ use Rattle.wh_view.specs.declared.view.ViewedEvent.{ViewedEvent}
 use Rattle.wh_view.specs.declared.view.ViewedThing.{ViewedThing}
 use Rattle.wh_view.specs.declared.view.UnsupportedKind.{UnsupportedKind}
 use Rattle.wh_view.specs.Parts.{word_of}
-use Rattle.wh_view.specs.declared.parts.Word.{Word}
-use Rattle.wh_view.specs.declared.parts.Word.TheVariants as words
+use Rattle.wh_view.specs.declared.parts.EventUse.{EventUse}
+use Rattle.wh_view.specs.declared.parts.EventUse.TheVariants as words
 use Rattle.wh_view_report.specs.Texts.{completed_count, is_within, span_of}
 use Rattle.wh_view.specs.Lookups.{event_id, thing_of, task_of}
 use Rattle.wh_tester.specs.Json.{escaped}
@@ -24,7 +24,7 @@ number_member None = []
 number_member (Some number) = codes ",\"event\":" ++ decimal number
 
 -- how an event concerns the worker, in a word
-abbrev pub side_word : Word → List ℕ
+abbrev pub side_word : EventUse → List ℕ
 side_word words.Completes = codes "completes"
 side_word words.Gives = codes "gives"
 side_word words.Told = codes "told"
@@ -87,7 +87,7 @@ event_object view event =
     ++ (linked_member view event ++ (codes ",\"recorded\":" ++ (event.json ++ codes "}\n"))))
 
 -- the object of an event, if it belongs to one of the tasks
-abbrev pub within_object : View → Span → ViewedEvent → List ℕ
+abbrev pub within_object : View → TaskRange → ViewedEvent → List ℕ
 within_object view span event = if is_within view span event then event_object view event else []
 
 -- the object with the counts
@@ -126,7 +126,7 @@ abbrev pub top_objects : View → List ℕ
 top_objects view = head_object view ++ flat_map (unsupported_object view) view.unsupported
 
 -- the objects of some tasks
-unfoldable pub span_objects : View → Span → List ℕ
+unfoldable pub span_objects : View → TaskRange → List ℕ
 span_objects view span = top_objects view ++ flat_map (within_object view span) view.events
 
 -- the whole report

@@ -3,7 +3,7 @@ use Rattle.std.specs.Prelude.{ℕ, ◌+◌, ◌-◌, ◌==◌, ◌&&◌, decimal
 use Rattle.std.specs.List.{flat_map}
 use Rattle.wh_events.specs.declared.kind.EventKind.{EventKind}
 use Rattle.wh_events.specs.declared.kind.EventKind.TheVariants.{WorkflowTaskScheduled, WorkflowTaskStarted}
-use Rattle.wh_view_report.specs.declared.text.Span.{Span}
+use Rattle.wh_view_report.specs.declared.text.TaskRange.{TaskRange}
 use Rattle.wh_view_report.specs.declared.text.Selection.{Selection}
 use Rattle.wh_view_report.specs.declared.text.Selection.TheVariants.{All, Last, Around}
 use Rattle.wh_view.specs.declared.view.View.{View}
@@ -35,27 +35,27 @@ has_selected view (Last tasks) = true
 has_selected view (Around number) = is_some (numbered_in number view.events)
 
 -- a task with the two before and the two after it
-abbrev pub span_around : ℕ → Span
+abbrev pub span_around : ℕ → TaskRange
 span_around task = record { first = task - 2; more = task - (task - 2) + 2 }
 
 -- the tasks around that of an event
-abbrev pub span_at : View → Option ViewedEvent → Span
+abbrev pub span_at : View → Option ViewedEvent → TaskRange
 span_at view (Some event) = span_around (task_of view event)
 span_at view None = record { first = 0; more = 0 }
 
 -- the tasks that are selected
-abbrev pub span_of : View → Selection → Span
+abbrev pub span_of : View → Selection → TaskRange
 span_of view All = record { first = 0; more = length view.events }
 span_of view (Last tasks) = record { first = completed_count view.events + 1 - tasks; more = length view.events }
 span_of view (Around number) = span_at view (numbered_in number view.events)
 
 -- the event belongs to one of the tasks
-abbrev pub is_within : View → Span → ViewedEvent → Bool
+abbrev pub is_within : View → TaskRange → ViewedEvent → Bool
 is_within view span event =
     nat_le span.first (task_of view event) && nat_le (task_of view event - span.first) span.more
 
 -- how many events belong to other tasks
-abbrev pub left_out : View → Span → ℕ
+abbrev pub left_out : View → TaskRange → ℕ
 left_out view span = count_by (λ event. not (is_within view span event)) view.events
 
 -- the line of a value
@@ -90,11 +90,11 @@ abbrev pub is_quiet : ViewedEvent → Bool
 is_quiet event = quiet_kind event.read.kind
 
 -- the event belongs to one of the tasks, and has a line
-abbrev pub is_shown : View → Span → ViewedEvent → Bool
+abbrev pub is_shown : View → TaskRange → ViewedEvent → Bool
 is_shown view span event = is_within view span event && not (is_quiet event)
 
 -- the lines of an event, if it is shown
-abbrev pub shown_text : View → Span → ViewedEvent → List ℕ
+abbrev pub shown_text : View → TaskRange → ViewedEvent → List ℕ
 shown_text view span event = if is_shown view span event then event_text view event else []
 
 -- the workflow type that the first event names
@@ -142,7 +142,7 @@ abbrev pub left_line : ℕ → List ℕ
 left_line left = if left == 0 then [] else decimal left ++ codes " events of other tasks are left out\n"
 
 -- the text of some tasks
-unfoldable pub span_text : View → Span → List ℕ
+unfoldable pub span_text : View → TaskRange → List ℕ
 span_text view span =
     top_text view ++ (flat_map (shown_text view span) view.events ++ left_line (left_out view span))
 

@@ -7,8 +7,8 @@ use Rattle.wh_view.specs.declared.view.ViewedEvent.{ViewedEvent}
 use Rattle.wh_view.specs.declared.view.ViewedThing.{ViewedThing}
 use Rattle.wh_view.specs.Lookups.{index_of, thing_of, task_of, lacks_thing}
 use Rattle.wh_view.specs.Parts.{word_of}
-use Rattle.wh_view.specs.declared.parts.Word.{Word}
-use Rattle.wh_view.specs.declared.parts.Word.TheVariants as words
+use Rattle.wh_view.specs.declared.parts.EventUse.{EventUse}
+use Rattle.wh_view.specs.declared.parts.EventUse.TheVariants as words
 
 -- `(event NUMBER)`, or else `(place PLACE)`
 abbrev pub numbered : Option ℕ → ℕ → List ℕ
@@ -76,7 +76,7 @@ abbrev pub attempt_text : ℕ → List ℕ
 attempt_text attempt = if attempt == 0 then [] else codes ", attempt " ++ decimal attempt
 
 -- how an event concerns its workflow, before its type
-abbrev pub start_by : ℕ → Word → List ℕ
+abbrev pub start_by : ℕ → EventUse → List ℕ
 start_by task words.Completes = codes "task " ++ (decimal task ++ codes ": ")
 start_by task words.Gives = codes "  gives "
 start_by task words.Told = codes "  told "

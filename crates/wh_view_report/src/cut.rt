@@ -31,9 +31,9 @@ fn write_front<W: fmt::Write>(text: &str, f: &mut fmt::Formatter<W>) -> fmt::Res
 
 /// The first characters of a text.
 #[derive(Drop)]
-struct Front<'a>(&'a str);
+struct Prefix<'a>(&'a str);
 
-impl fmt::Display for Front<'_> {
+impl fmt::Display for Prefix<'_> {
     ghost output = { λ t. Some (front t.0.now) };
 
     fn fmt<W: fmt::Write>(&self, f: &mut fmt::Formatter<W>) -> fmt::Result {
@@ -68,14 +68,14 @@ impl fmt::Display for Rest {
 /// The first 80 characters of a text, with `?` for each one that is not between the space and `~`.
 /// If the text is longer, the number of its characters follows.
 #[derive(Drop)]
-pub(crate) struct Cut<'a>(pub(crate) &'a str);
+pub(crate) struct Excerpt<'a>(pub(crate) &'a str);
 
-impl fmt::Display for Cut<'_> {
+impl fmt::Display for Excerpt<'_> {
     ghost output = { λ t. Some (cut t.0.now) };
 
     #[tactic(auto, unfolding(crate::specs::Cut::cut))]
     fn fmt<W: fmt::Write>(&self, f: &mut fmt::Formatter<W>) -> fmt::Result {
-        let front = Front(self.0);
+        let front = Prefix(self.0);
         let rest = Rest(char_count(self.0));
         write!(f, "{front}{rest}")
     }
@@ -83,9 +83,9 @@ impl fmt::Display for Cut<'_> {
 
 /// A text after a label; nothing if the text is empty.
 #[derive(Drop)]
-pub(crate) struct Label<'a>(pub(crate) &'static str, pub(crate) &'a str);
+pub(crate) struct LabelText<'a>(pub(crate) &'static str, pub(crate) &'a str);
 
-impl fmt::Display for Label<'_> {
+impl fmt::Display for LabelText<'_> {
     ghost output = { λ l. Some (label_text l.0.now l.1.now) };
 
     fn fmt<W: fmt::Write>(&self, f: &mut fmt::Formatter<W>) -> fmt::Result {
@@ -93,7 +93,7 @@ impl fmt::Display for Label<'_> {
             return Ok(());
         }
         let label = self.0;
-        let text = Cut(self.1);
+        let text = Excerpt(self.1);
         write!(f, "{label}{text}")
     }
 }

@@ -5,13 +5,13 @@ ghost use Rattle.std.specs.List.{flat_map};
 ghost use Rattle.std.specs.Io.KnownBytes.{Appends};
 ghost use Rattle.wh_view_report.specs.Json as json;
 
-use crate::text::{Selection, Span, completed_count, is_within, span_of};
+use crate::text::{Selection, TaskRange, completed_count, is_within, span_of};
 use crate::words::mark_of;
 use std::io::Write;
 use std::{fmt, io};
 use wh_events::EventNo;
 use wh_tester::EscapedName;
-use wh_view::{ThingKind, UnsupportedKind, View, ViewedEvent, Word};
+use wh_view::{EventUse, ThingKind, UnsupportedKind, View, ViewedEvent};
 
 /// The number of an event, as a further member of an object.
 #[derive(Clone, Copy)]
@@ -36,10 +36,10 @@ fn side_of(event: &ViewedEvent) -> &'static str
     ensures { result.now ≡ json.side_of event.now }
 {
     match event.word() {
-        Word::Completes => "completes",
-        Word::Gives => "gives",
-        Word::Told => "told",
-        Word::Other => "other",
+        EventUse::Completes => "completes",
+        EventUse::Gives => "gives",
+        EventUse::Told => "told",
+        EventUse::Other => "other",
     }
 }
 
@@ -170,7 +170,7 @@ fn write_event<O: Write>(view: &View, event: &ViewedEvent, writer: &mut O) -> io
 }
 
 /// Writes the objects of the events of some tasks.
-fn write_events<O: Write>(view: &View, span: Span, writer: &mut O) -> io::Result<()>
+fn write_events<O: Write>(view: &View, span: TaskRange, writer: &mut O) -> io::Result<()>
     ensures { OnOk result (Appends (O.contents writer.old) (O.contents writer.new)
         (flat_map (json.within_object view.now span) view.now.events)) }
 {
@@ -280,7 +280,7 @@ fn write_top<O: Write>(view: &View, writer: &mut O) -> io::Result<()>
 
 /// Writes the objects of some tasks.
 #[tactic(auto, unfolding(crate::specs::Json::span_objects))]
-fn write_span<O: Write>(view: &View, span: Span, writer: &mut O) -> io::Result<()>
+fn write_span<O: Write>(view: &View, span: TaskRange, writer: &mut O) -> io::Result<()>
     ensures { OnOk result
         (Appends (O.contents writer.old) (O.contents writer.new) (json.span_objects view.now span)) }
 {

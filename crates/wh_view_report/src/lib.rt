@@ -9,6 +9,6 @@ mod words;
 
 pub use json::write_json_view;
 pub use text::{
-    Selection, Span, completed_count, has_selected, is_quiet, workflow_type, write_view,
+    Selection, TaskRange, completed_count, has_selected, is_quiet, workflow_type, write_view,
 };
 pub use words::{Attempt, mark_of};

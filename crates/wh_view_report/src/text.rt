@@ -5,7 +5,7 @@ ghost use Rattle.std.specs.List.{flat_map};
 ghost use Rattle.std.specs.Io.KnownBytes.{Appends};
 ghost use Rattle.wh_view_report.specs.Texts as texts;
 
-use crate::cut::{Cut, Label};
+use crate::cut::{Excerpt, LabelText};
 use crate::words::{Attempt, Link, Number, Start, mark_of};
 use std::io::Write;
 use std::{fmt, io};
@@ -25,7 +25,7 @@ pub enum Selection {
 
 /// A range of tasks: one, and so many after it.
 #[derive(Clone, Copy)]
-pub struct Span {
+pub struct TaskRange {
     /// The number of the first task.
     pub first: usize,
     /// How many tasks follow it.
@@ -74,39 +74,39 @@ pub fn has_selected(view: &View, selection: Selection) -> bool
 }
 
 /// Returns a task with the two before and the two after it.
-fn span_around(task: usize) -> Span
+fn span_around(task: usize) -> TaskRange
     ensures { result ≡ texts.span_around task }
 {
     let first = task.saturating_sub(2);
-    Span {
+    TaskRange {
         first,
         more: task - first + 2,
     }
 }
 
 /// Returns the tasks that are selected.
-pub(crate) fn span_of(view: &View, selection: Selection) -> Span
+pub(crate) fn span_of(view: &View, selection: Selection) -> TaskRange
     ensures { result ≡ texts.span_of view.now selection }
 {
     let events = view.events.get();
     match selection {
-        Selection::All => Span {
+        Selection::All => TaskRange {
             first: 0,
             more: events.len(),
         },
-        Selection::Last(tasks) => Span {
+        Selection::Last(tasks) => TaskRange {
             first: (completed_count(events) + 1).saturating_sub(tasks),
             more: events.len(),
         },
         Selection::Around(number) => match numbered_in(events, number) {
             Some(event) => span_around(view.task_of(event)),
-            None => Span { first: 0, more: 0 },
+            None => TaskRange { first: 0, more: 0 },
         },
     }
 }
 
 /// Returns whether an event belongs to one of the tasks.
-pub(crate) fn is_within(view: &View, span: Span, event: &ViewedEvent) -> bool
+pub(crate) fn is_within(view: &View, span: TaskRange, event: &ViewedEvent) -> bool
     ensures { result ≡ texts.is_within view.now span event.now }
 {
     let task = view.task_of(event);
@@ -119,7 +119,7 @@ fn write_values<O: Write>(values: &[Text], writer: &mut O) -> io::Result<()>
         (Appends (O.contents writer.old) (O.contents writer.new) (flat_map texts.value_line values.now)) }
 {
     for value in values {
-        let value = Cut(value.get());
+        let value = Excerpt(value.get());
         write!(writer, "      {value}\n")?;
     }
     Ok(())
@@ -143,16 +143,16 @@ fn write_line<O: Write>(view: &View, event: &ViewedEvent, writer: &mut O) -> io:
 {
     let opening = view.opening_of(event);
     let start = Start(view, event);
-    let name = Cut(event.read.name.get());
-    let id = Label(" ", opening.id());
-    let kind = Label(" ", opening.type_name());
+    let name = Excerpt(event.read.name.get());
+    let id = LabelText(" ", opening.id());
+    let kind = LabelText(" ", opening.type_name());
     let number = Number(event);
-    let moment = Label(" ", event.moment.get());
+    let moment = LabelText(" ", event.moment.get());
     let link = Link(view, event);
     let attempt = Attempt(event.attempt);
-    let duration = Label(", ", event.duration.get());
-    let failure = Label(", because ", event.failure.get());
-    let mark = Label(", ", mark_of(view, event));
+    let duration = LabelText(", ", event.duration.get());
+    let failure = LabelText(", because ", event.failure.get());
+    let mark = LabelText(", ", mark_of(view, event));
     write!(
         writer,
         "{start}{name}{id}{kind} {number}{moment}{link}{attempt}{duration}{failure}{mark}\n"
@@ -169,14 +169,14 @@ fn write_event<O: Write>(view: &View, event: &ViewedEvent, writer: &mut O) -> io
 }
 
 /// Returns whether an event is written.
-fn is_shown(view: &View, span: Span, event: &ViewedEvent) -> bool
+fn is_shown(view: &View, span: TaskRange, event: &ViewedEvent) -> bool
     ensures { result ≡ texts.is_shown view.now span event.now }
 {
     is_within(view, span, event) && !is_quiet(event)
 }
 
 /// Writes the lines of the events that are shown.
-fn write_events<O: Write>(view: &View, span: Span, writer: &mut O) -> io::Result<()>
+fn write_events<O: Write>(view: &View, span: TaskRange, writer: &mut O) -> io::Result<()>
     ensures { OnOk result (Appends (O.contents writer.old) (O.contents writer.new)
         (flat_map (texts.shown_text view.now span) view.now.events)) }
 {
@@ -189,7 +189,7 @@ fn write_events<O: Write>(view: &View, span: Span, writer: &mut O) -> io::Result
 }
 
 /// Returns how many events belong to other tasks.
-fn left_out(view: &View, span: Span) -> usize
+fn left_out(view: &View, span: TaskRange) -> usize
     ensures { result ≡ texts.left_out view.now span }
 {
     view.events
@@ -220,7 +220,7 @@ fn write_counts<O: Write>(
     ensures { OnOk result
         (Appends (O.contents writer.old) (O.contents writer.new) (texts.counts_line kind.now events tasks things)) }
 {
-    let kind = Cut(kind);
+    let kind = Excerpt(kind);
     write!(
         writer,
         "{kind}: {events} events, {tasks} tasks completed, {things} things\n"
@@ -249,8 +249,8 @@ impl fmt::Display for KindName<'_> {
     ghost output = { λ k. Some (texts.kind_name k.0.now) };
 
     fn fmt<W: fmt::Write>(&self, f: &mut fmt::Formatter<W>) -> fmt::Result {
-        let name = Cut(self.0.read.name.get());
-        let id = Label(" ", self.0.id());
+        let name = Excerpt(self.0.read.name.get());
+        let id = LabelText(" ", self.0.id());
         write!(f, "{name}{id}")
     }
 }
@@ -314,7 +314,7 @@ fn write_left<O: Write>(left: usize, writer: &mut O) -> io::Result<()>
 
 /// Writes the first lines, the lines of the events of some tasks, and how many are left out.
 #[tactic(auto, unfolding(crate::specs::Texts::span_text))]
-fn write_span<O: Write>(view: &View, span: Span, writer: &mut O) -> io::Result<()>
+fn write_span<O: Write>(view: &View, span: TaskRange, writer: &mut O) -> io::Result<()>
     ensures { OnOk result
         (Appends (O.contents writer.old) (O.contents writer.new) (texts.span_text view.now span)) }
 {

@@ -6,7 +6,7 @@ ghost use Rattle.wh_view_report.specs.Words.{fault_words, mark_words, attempt_te
 
 use std::fmt;
 use wh_json::ReadFault;
-use wh_view::{View, ViewedEvent, Word};
+use wh_view::{EventUse, View, ViewedEvent};
 
 /// The number of an event, or its place if it has no number.
 #[derive(Drop)]
@@ -153,13 +153,13 @@ impl fmt::Display for Start<'_> {
 
     fn fmt<W: fmt::Write>(&self, f: &mut fmt::Formatter<W>) -> fmt::Result {
         match self.1.word() {
-            Word::Completes => {
+            EventUse::Completes => {
                 let task = self.0.task_of(self.1);
                 write!(f, "task {task}: ")
             }
-            Word::Gives => write!(f, "  gives "),
-            Word::Told => write!(f, "  told "),
-            Word::Other => write!(f, "  has "),
+            EventUse::Gives => write!(f, "  gives "),
+            EventUse::Told => write!(f, "  told "),
+            EventUse::Other => write!(f, "  has "),
         }
     }
 }

@@ -1,10 +1,10 @@
 -- Where counts are kept, and what is in the way of that.
 use Rattle.std.specs.Prelude.{◌≡◌, ◌⊎◌, ℕ, List, ◌++◌, codes, Option, Some, None}
-use Rattle.wh_files.specs.Reasons.{reason_words}
-use Rattle.wh_files.specs.declared.FolderFault.{FolderFault}
-use Rattle.wh_files.specs.declared.FolderFault.TheVariants.{Unreadable, OutOfMemory}
-use Rattle.wh_files.specs.declared.Reason.{Reason}
-use Rattle.wh_files.specs.declared.Reason.TheVariants as reasons
+use Rattle.wh_console.specs.Reasons.{reason_words}
+use Rattle.wh_console.specs.declared.files.FolderFault.{FolderFault}
+use Rattle.wh_console.specs.declared.files.FolderFault.TheVariants.{Unreadable, OutOfMemory}
+use Rattle.wh_console.specs.declared.files.Reason.{Reason}
+use Rattle.wh_console.specs.declared.files.Reason.TheVariants as reasons
 use Rattle.wh_work.specs.declared.metrics_file.ReplaceFault.{ReplaceFault}
 use Rattle.wh_work.specs.declared.metrics_file.ReplaceFault.TheVariants.{Obstructed, Unwritten}
 use Rattle.wh_work.specs.declared.metrics_path.Obstacle.{Obstacle}

@@ -3,7 +3,7 @@ use Rattle.std.specs.Prelude.{◌≡◌, ℕ, Option, Some, None, List}
 use Rattle.wh_command_line.specs.declared.work.WorkOptions.{WorkOptions}
 use Rattle.wh_policies.specs.Defaults as plain
 use Rattle.wh_policies.specs.declared.policies.Policies.{Policies}
-use Rattle.wh_policy_file.specs.Policies.{IsRead, IsRefused}
+use Rattle.wh_policies.specs.Policies.{IsRead, IsRefused}
 use Rattle.wh_work.specs.MetricsPaths.{IsMetricsText}
 use Rattle.wh_work.specs.declared.policies.PlanFault.{PlanFault}
 use Rattle.wh_work.specs.declared.policies.PlanFault.TheVariants as plan

@@ -10,9 +10,9 @@ use Rattle.wh_host.specs.declared.reply.Outcome.TheVariants.{Completed, Failed}
 use Rattle.wh_json.specs.Fields.{field, text_of}
 use Rattle.wh_live.specs.Tallies.{together}
 use Rattle.wh_metrics.specs.Lines.{counts_text, json_text}
-use Rattle.wh_metrics.specs.declared.metrics.Held.{Held}
+use Rattle.wh_metrics.specs.declared.metrics.Gauges.{Gauges}
 use Rattle.wh_metrics.specs.declared.metrics.Metrics.{Metrics}
-use Rattle.wh_metrics.specs.declared.metrics.Slots.{Slots}
+use Rattle.wh_metrics.specs.declared.metrics.TaskSlots.{TaskSlots}
 use Rattle.wh_poll.specs.declared.serve.Served.{Served}
 use Rattle.wh_poll.specs.declared.serve.Served.TheVariants.{Workflow, Activity}
 use Rattle.wh_slots.specs.declared.SlotCount.{SlotCount}
@@ -102,10 +102,10 @@ abbrev pub kind_of : List ℕ → Option SlotKind
 kind_of method = kind_by (answers_workflow_task method) (answers_activity_task method)
 
 -- slots by their use: a poll has those that are reserved
-abbrev pub slots_of : SlotCount → Slots
+abbrev pub slots_of : SlotCount → TaskSlots
 slots_of count = record { used = together count.reserved count.held; available = count.free }
 
-abbrev pub held_of : Counts → Held
+abbrev pub held_of : Counts → Gauges
 held_of counts = record {
   in_hand = counts.in_hand;
   cached = counts.cached;

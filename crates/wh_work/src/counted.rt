@@ -4,8 +4,8 @@ ghost use Rattle.std.specs.Prelude.{◌≡◌, ◌-◌, false, max};
 ghost use Rattle.wh_work.specs.Counted.{AreNotedAfter, MayBeNoted, with_end};
 ghost use Rattle.wh_work.specs.Progress.{answered, metrics_now, no_lower, nothing, rate_of};
 
-use crate::counted_calls::TaskEnd;
-use crate::counting::{answered, metrics_now, no_lower, nothing, rate_of};
+use crate::counted_calls::TaskFate;
+use crate::counting::{answered_tasks, metrics_now, no_lower, nothing, rate_of};
 use crate::task_times::{BegunTask, BegunTasks, add_time};
 use crate::untaken::UntakenAnswers;
 use std::alloc::Global;
@@ -54,7 +54,7 @@ impl Turns {
         let since = now.saturating_sub(self.reported).max(1);
         rate_of(
             since,
-            answered(metrics).saturating_sub(answered(&self.last)),
+            answered_tasks(metrics).saturating_sub(answered_tasks(&self.last)),
         )
     }
 
@@ -109,19 +109,19 @@ impl Counted {
 
     /// Ends a task that was noted, as its answer says, at this time, in microseconds: counts how
     /// long it took, or notes it again.
-    pub(crate) fn end_task(&mut self, end: TaskEnd, task: BegunTask, now: u64)
+    pub(crate) fn end_task(&mut self, end: TaskFate, task: BegunTask, now: u64)
         ensures counts { self.new.turns
             ≡ record self.old.turns { metrics = with_end end (now - task.since) self.old.turns.metrics } }
         ensures noted { AreNotedAfter end task self.old.begun.tasks.items self.new.begun.tasks.items }
     {
         match end {
-            TaskEnd::Timed(kind) => {
+            TaskFate::Timed(kind) => {
                 let microseconds = now.saturating_sub(task.since);
                 add_time(&mut self.turns.metrics, kind, microseconds);
                 drop(task);
             }
-            TaskEnd::Noted => self.note(task),
-            TaskEnd::Dropped => drop(task),
+            TaskFate::Noted => self.note(task),
+            TaskFate::Dropped => drop(task),
         }
     }
 }

@@ -9,7 +9,7 @@ ghost use Rattle.wh_work.specs.Progress.{rate_of, slots_of, with_poll, with_turn
 use crate::task_times::no_times;
 use crate::untaken::UntakenAnswers;
 use wh_host::{Counts, Outcome};
-use wh_metrics::{Held, Metrics, Slots};
+use wh_metrics::{Gauges, Metrics, TaskSlots};
 use wh_poll::{Served, SourceFault};
 use wh_slots::{SlotCount, SlotKind};
 
@@ -140,20 +140,20 @@ pub(crate) fn kind_of(method: &str) -> Option<SlotKind>
 }
 
 /// The slots of a kind.
-fn slots_of(count: SlotCount) -> Slots
+fn slots_of(count: SlotCount) -> TaskSlots
     ensures { result ≡ slots_of count }
 {
-    Slots {
+    TaskSlots {
         used: (count.reserved as u64).saturating_add(count.held as u64),
         available: count.free as u64,
     }
 }
 
 /// What a host holds.
-fn held_of(counts: Counts) -> Held
+fn held_of(counts: Counts) -> Gauges
     ensures { result ≡ held_of counts }
 {
-    Held {
+    Gauges {
         in_hand: counts.in_hand,
         cached: counts.cached as u64,
         cached_events: counts.cached_events,
@@ -174,18 +174,18 @@ pub(crate) fn metrics_now(
 {
     match counts {
         Some(counts) => Metrics {
-            completed: answers.completed(counts.completed),
-            failed: answers.failed(counts.failed),
+            completed: answers.completed_tasks(counts.completed),
+            failed: answers.failed_tasks(counts.failed),
             held: Some(held_of(counts)),
             not_found: answers.not_found,
-            refused: answers.refused(),
+            refused: answers.refused_answers(),
             ..metrics
         },
         None => Metrics {
-            completed: answers.completed(metrics.completed),
+            completed: answers.completed_tasks(metrics.completed),
             failed: metrics.failed.saturating_sub(answers.failures()),
             not_found: answers.not_found,
-            refused: answers.refused(),
+            refused: answers.refused_answers(),
             ..metrics
         },
     }
@@ -205,7 +205,7 @@ pub(crate) fn no_lower(last: Metrics, now: Metrics) -> Metrics
 }
 
 /// How many tasks are over.
-pub(crate) fn answered(metrics: &Metrics) -> u64
+pub(crate) fn answered_tasks(metrics: &Metrics) -> u64
     ensures { result ≡ answered metrics.now }
 {
     let taken = metrics.completed.saturating_add(metrics.failed);

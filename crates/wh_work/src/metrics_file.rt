@@ -12,8 +12,8 @@ use std::alloc::{AllocError, Global};
 use std::fs;
 use std::rt::Files;
 use wh_commands::WorkerNames;
+use wh_console::{FolderFault, Reason, replace_file};
 use wh_crew::LiveEnd;
-use wh_files::{FolderFault, Reason, replace_file};
 use wh_metrics::{Exposition, Metrics, WorkerLabels};
 
 /// The file in which counts are kept, as Prometheus reads them.
@@ -28,7 +28,11 @@ pub(crate) struct MetricsFile<'a> {
 }
 
 /// The counts of a process as they are kept.
-fn exposed(alloc: Global, labels: WorkerLabels<'_>, metrics: Metrics) -> Result<String, AllocError>
+fn exposition_text(
+    alloc: Global,
+    labels: WorkerLabels<'_>,
+    metrics: Metrics,
+) -> Result<String, AllocError>
     ensures { IfOk result (λ text. string_bytes text ≡ metrics_text
         (labels_text labels.entry.namespace.now labels.entry.task_queue.now labels.entry.identity.now) metrics) }
 {
@@ -45,15 +49,15 @@ pub(crate) fn end_metrics(metrics: &Metrics, end: &WorkEnd) -> Metrics
     let WorkEnd { live, untaken } = *end;
     let LiveEnd { totals, tally } = live;
     Metrics {
-        completed: untaken.completed(totals.completed),
-        failed: untaken.failed(totals.failed),
+        completed: untaken.completed_tasks(totals.completed),
+        failed: untaken.failed_tasks(totals.failed),
         held: None,
         hits: metrics.hits,
         misses: metrics.misses,
         polls: tally.polls,
         empty_polls: tally.empty,
         not_found: untaken.not_found,
-        refused: untaken.refused(),
+        refused: untaken.refused_answers(),
         workflow_times: metrics.workflow_times,
         activity_times: metrics.activity_times,
     }
@@ -103,7 +107,7 @@ impl ReplaceFault {
 /// do so.
 pub trait FileReplacer {
     /// Replaces what the file at `path` has, by way of a file at `beside`, as
-    /// [`replace_file`](wh_files::replace_file). After an error it is as it was, and no file is
+    /// [`replace_file`](wh_console::replace_file). After an error it is as it was, and no file is
     /// left at `beside`.
     ///
     /// `Obstructed` if something other than a regular file is at `path` or at `beside`, as a link,
@@ -162,7 +166,7 @@ impl<'a> MetricsFile<'a> {
         rt: &R,
         metrics: Metrics,
     ) -> Option<&'static str> {
-        let Ok(text) = exposed(rt.alloc(), self.labels, metrics) else {
+        let Ok(text) = exposition_text(rt.alloc(), self.labels, metrics) else {
             return Some(words_of(FolderFault::OutOfMemory));
         };
         match rt.replace(self.path, self.beside.as_str(), text.as_bytes()) {

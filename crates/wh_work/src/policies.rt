@@ -2,16 +2,15 @@
 
 ghost use Rattle.std.specs.Prelude.{IfErr, IfOk};
 ghost use Rattle.wh_command_line.specs.Options.{IsWithinWorkLimits};
-ghost use Rattle.wh_policy_file.specs.Policies.{IsRefused};
+ghost use Rattle.wh_policies.specs.Policies.{IsRefused};
 ghost use Rattle.wh_work.specs.Policies.{AreOfFile, ArePolicies, IsPolicyFault};
 
 use std::alloc::{AllocError, Global};
 use std::rt::Files;
 use wh_command_line::WorkOptions;
+use wh_console::{InputFault, Origin, read_input};
 use wh_events::Text;
-use wh_files::{InputFault, Origin, read_input};
-use wh_policies::Policies;
-use wh_policy_file::{PolicyFault, read_policies};
+use wh_policies::{Policies, PolicyFault, read_policies};
 
 /// A file that gives no policies, and why not.
 #[derive(Debug, Drop)]

@@ -4,7 +4,7 @@ ghost use Rattle.std.specs.Prelude.{◌≡◌, IfSome, Some};
 ghost use Rattle.wh_work.specs.Progress.{line_as};
 
 use crate::counted::{Counted, Report};
-use crate::counted_calls::TaskEnd;
+use crate::counted_calls::TaskFate;
 use crate::counting::{add_poll, add_turn, nothing};
 use crate::metrics_file::{FileReplacer, MetricsFile, end_metrics};
 use crate::report::WorkEnd;
@@ -15,10 +15,9 @@ use std::fmt;
 use std::fmt::{Display, Formatter};
 use std::sync::{Mutex, Wait};
 use std::time::{Clock, Duration};
-use wh_companion::{Companion, EndSignal};
 use wh_console::Format;
 use wh_events::Text;
-use wh_host::Counts;
+use wh_host::{Companion, Counts, EndSignal};
 use wh_metrics::{CountsLine, JsonLine, Metrics};
 use wh_poll::{Served, SourceFault};
 use wh_tester::Shown;
@@ -67,7 +66,7 @@ fn milliseconds<R: Clock>(rt: &R) -> u64 {
 /// Reports from time to time what was counted, and what the host holds, and keeps it in a file, as
 /// far as either is asked for.
 #[derive(Drop)]
-pub(crate) struct Progress<'a, R> {
+pub(crate) struct ProgressReporter<'a, R> {
     rt: &'a R,
     /// What the program is called.
     name: &'a str,
@@ -82,7 +81,7 @@ pub(crate) struct Progress<'a, R> {
     counted: Mutex<Counted>,
 }
 
-impl<'a, R: Wait + Clock> Progress<'a, R> {
+impl<'a, R: Wait + Clock> ProgressReporter<'a, R> {
     /// One that begins now, for a program of a name. It reports in a form after so many seconds
     /// each, if it does, and keeps the counts in the file, if there is one. The answers that the
     /// server did not take are counted beside it.
@@ -94,8 +93,8 @@ impl<'a, R: Wait + Clock> Progress<'a, R> {
         format: Format,
         file: Option<MetricsFile<'a>>,
         answers: &'a AnswerCounter,
-    ) -> Progress<'a, R> {
-        Progress {
+    ) -> ProgressReporter<'a, R> {
+        ProgressReporter {
             rt,
             name,
             period: Duration::from_secs(seconds.unwrap_or(KEPT_SECONDS)),
@@ -111,7 +110,7 @@ impl<'a, R: Wait + Clock> Progress<'a, R> {
     }
 }
 
-impl<R: Wait + Clock> Progress<'_, R> {
+impl<R: Wait + Clock> ProgressReporter<'_, R> {
     /// Notes that a poll has given the task of this token now. If there is no memory to note it, it
     /// is not timed.
     pub(crate) fn begin_task(&self, alloc: Global, token: &str) {
@@ -123,7 +122,7 @@ impl<R: Wait + Clock> Progress<'_, R> {
     }
 
     /// Ends a task now, as [`Counted::end_task`] says.
-    pub(crate) fn end_task(&self, end: TaskEnd, task: BegunTask) {
+    pub(crate) fn end_task(&self, end: TaskFate, task: BegunTask) {
         let now = microseconds(self.rt);
         self.counted.lock(self.rt).end_task(end, task, now);
     }
@@ -138,7 +137,7 @@ impl<R: Wait + Clock> Progress<'_, R> {
     }
 }
 
-impl<R: Wait> Progress<'_, R> {
+impl<R: Wait> ProgressReporter<'_, R> {
     /// The task of this token, if one is noted, as [`BegunTasks::take`] says.
     pub(crate) fn take_task(&self, token: &str) -> Option<BegunTask>
         ensures { IfSome result (λ task. task.token ≡ token.now) }
@@ -165,7 +164,7 @@ impl<R: Wait> Progress<'_, R> {
     }
 }
 
-impl<R: Wait + Eprint + FileReplacer + AllocGlobal> Progress<'_, R> {
+impl<R: Wait + Eprint + FileReplacer + AllocGlobal> ProgressReporter<'_, R> {
     /// Keeps counts in the file, if there is one. That it can't be written is reported once, until
     /// it can be written again.
     fn keep(&self, metrics: Metrics) {
@@ -203,7 +202,7 @@ impl<R: Wait + Eprint + FileReplacer + AllocGlobal> Progress<'_, R> {
     }
 }
 
-impl<R: Wait + Clock + Eprint + FileReplacer + AllocGlobal> Companion for Progress<'_, R> {
+impl<R: Wait + Clock + Eprint + FileReplacer + AllocGlobal> Companion for ProgressReporter<'_, R> {
     fn wait(&self, signal: &EndSignal) -> bool {
         signal.wait(self.rt, self.period)
     }

@@ -5,7 +5,7 @@ ghost use Rattle.std.specs.Io.KnownBytes.{Appends};
 ghost use Rattle.wh_work.specs.Reports.{calls_text, json_calls_text, json_live_text, json_totals_text};
 ghost use Rattle.wh_work.specs.Reports.{live_status, live_text};
 
-use crate::untaken::{UntakenAnswers, settled};
+use crate::untaken::{UntakenAnswers, taken_totals};
 use std::io;
 use std::io::Write;
 use wh_console::{Format, Message};
@@ -33,7 +33,7 @@ fn write_calls<E: Write>(end: &WorkEnd, writer: &mut E) -> io::Result<()>
     ensures { OnOk result (Appends (E.contents writer.old) (E.contents writer.new) (calls_text end.now)) }
 {
     let tally = end.live.tally;
-    let refused = end.untaken.refused();
+    let refused = end.untaken.refused_answers();
     writeln!(
         writer,
         "polls {}, empty polls {}, answers not found {}, answers refused {}",
@@ -46,7 +46,7 @@ fn write_calls<E: Write>(end: &WorkEnd, writer: &mut E) -> io::Result<()>
 fn write_text_end<E: Write>(end: &WorkEnd, writer: &mut E) -> io::Result<()>
     ensures { OnOk result (Appends (E.contents writer.old) (E.contents writer.new) (live_text end.now)) }
 {
-    let totals = settled(end.live.totals, end.untaken);
+    let totals = taken_totals(end.live.totals, end.untaken);
     writeln!(writer, "{totals}")?;
     write_calls(end, writer)
 }
@@ -68,7 +68,7 @@ fn write_json_calls<E: Write>(end: &WorkEnd, writer: &mut E) -> io::Result<()>
     ensures { OnOk result (Appends (E.contents writer.old) (E.contents writer.new) (json_calls_text end.now)) }
 {
     let tally = end.live.tally;
-    let refused = end.untaken.refused();
+    let refused = end.untaken.refused_answers();
     writeln!(
         writer,
         ",\"polls\":{},\"emptyPolls\":{},\"answersNotFound\":{},\"answersRefused\":{}}}",
@@ -80,7 +80,7 @@ fn write_json_calls<E: Write>(end: &WorkEnd, writer: &mut E) -> io::Result<()>
 fn write_json_end<E: Write>(end: &WorkEnd, writer: &mut E) -> io::Result<()>
     ensures { OnOk result (Appends (E.contents writer.old) (E.contents writer.new) (json_live_text end.now)) }
 {
-    let totals = settled(end.live.totals, end.untaken);
+    let totals = taken_totals(end.live.totals, end.untaken);
     write_json_totals(&totals, writer)?;
     write_json_calls(end, writer)
 }

@@ -85,7 +85,7 @@ impl UntakenAnswers {
 
     /// How many were refused, or got no response: all but those whose task the server no longer
     /// had.
-    pub(crate) fn refused(self) -> u64
+    pub(crate) fn refused_answers(self) -> u64
         ensures { result ≡ refused_of self }
     {
         self.invalid.saturating_add(self.lost)
@@ -101,14 +101,14 @@ impl UntakenAnswers {
     }
 
     /// How many tasks are completed, of so many that the host counts as completed.
-    pub(crate) fn completed(self, counted: u64) -> u64
+    pub(crate) fn completed_tasks(self, counted: u64) -> u64
         ensures { result ≡ completed_of self counted }
     {
         counted.saturating_sub(self.completions)
     }
 
     /// How many tasks have failed, of so many that the host counts as failed.
-    pub(crate) fn failed(self, counted: u64) -> u64
+    pub(crate) fn failed_tasks(self, counted: u64) -> u64
         ensures { result ≡ failed_of self counted }
     {
         counted.saturating_sub(self.failures().saturating_add(self.lost))
@@ -117,12 +117,12 @@ impl UntakenAnswers {
 
 /// The totals of a host, in which no task counts as completed or failed whose answer the server did
 /// not take.
-pub(crate) fn settled(totals: Totals, answers: UntakenAnswers) -> Totals
+pub(crate) fn taken_totals(totals: Totals, answers: UntakenAnswers) -> Totals
     ensures { result ≡ settled totals answers }
 {
     Totals {
-        completed: answers.completed(totals.completed),
-        failed: answers.failed(totals.failed),
+        completed: answers.completed_tasks(totals.completed),
+        failed: answers.failed_tasks(totals.failed),
         ..totals
     }
 }

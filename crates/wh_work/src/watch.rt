@@ -1,12 +1,12 @@
 //! What the turns of live workers are counted by.
 
-use crate::progress::Progress;
+use crate::progress::ProgressReporter;
 use std::sync::Wait;
 use wh_poll::{Observer, Served, SourceFault};
 
 /// Counts the tasks of its worker, if they are counted.
 #[derive(Drop)]
-pub(crate) struct Watch<'a, R>(pub(crate) Option<&'a Progress<'a, R>>);
+pub(crate) struct Watch<'a, R>(pub(crate) Option<&'a ProgressReporter<'a, R>>);
 
 impl<R: Wait> Observer for Watch<'_, R> {
     ghost use Rattle.std.specs.Prelude.{◌≡◌};

@@ -7,7 +7,7 @@ ghost use Rattle.wh_host.specs.Machine.{IsConfig};
 use crate::counted_calls::CountedCalls;
 use crate::metrics_file::{FileReplacer, MetricsFile};
 use crate::plan::LivePlan;
-use crate::progress::Progress;
+use crate::progress::ProgressReporter;
 use crate::report::WorkEnd;
 use crate::untaken::AnswerCounter;
 use crate::watch::Watch;
@@ -15,15 +15,14 @@ use std::alloc::Global;
 use std::sync::{Arc, Wait};
 use std::thread::Threads;
 use std::time::Clock;
-use wh_activities::{HeartbeatHandler, WithHeartbeat};
 use wh_commands::WorkerNames;
 use wh_crew::{LiveHeartbeat, serve_live};
 use wh_events::OutOfMemory;
-use wh_heartbeat::ActivityCell;
 use wh_host::OpenFault;
-use wh_keeping_calls::KeepingCalls;
-use wh_queryable::Queryable;
+use wh_payload_metadata::KeepingCalls;
 use wh_rpc::Caller;
+use wh_tasks::{ActivityCell, HeartbeatHandler, WithHeartbeat};
+use wh_workflow::Queryable;
 
 /// A handler with its heartbeat, as a live worker runs activities by.
 type LiveHandler<'a, B, R, C> = WithHeartbeat<B, LiveHeartbeat<'a, R, CountedCalls<'a, C, R>>>;
@@ -90,7 +89,7 @@ fn progress_of<'a, R: Wait + Clock>(
     name: &'a str,
     plan: &'a LivePlan,
     answers: &'a AnswerCounter,
-) -> Result<Option<Progress<'a, R>>, OutOfMemory>
+) -> Result<Option<ProgressReporter<'a, R>>, OutOfMemory>
     ensures { IfOk result (λ progress.
         is_some progress ≡ (is_some plan.now.stats || is_some plan.now.metrics)) }
 {
@@ -98,13 +97,13 @@ fn progress_of<'a, R: Wait + Clock>(
     if plan.stats.is_none() && file.is_none() {
         return Ok(None);
     }
-    let progress = Progress::new(rt, alloc, name, plan.stats, plan.format, file, answers);
+    let progress = ProgressReporter::new(rt, alloc, name, plan.stats, plan.format, file, answers);
     Ok(Some(progress))
 }
 
 /// Reports and keeps the counts of the end, if they are counted.
 fn note_end<R: Wait + Eprint + FileReplacer + AllocGlobal>(
-    progress: Option<&Progress<R>>,
+    progress: Option<&ProgressReporter<R>>,
     end: &WorkEnd,
 ) {
     if let Some(progress) = progress {
@@ -155,7 +154,14 @@ where
         drop(crew);
         return Err(OutOfMemory);
     }
-    let end = serve_live::<W, R, CountedCalls<C, R>, LiveHandler<B, R, C>, Watch<R>, Progress<R>>(
+    let end = serve_live::<
+        W,
+        R,
+        CountedCalls<C, R>,
+        LiveHandler<B, R, C>,
+        Watch<R>,
+        ProgressReporter<R>,
+    >(
         rt,
         alloc,
         name,

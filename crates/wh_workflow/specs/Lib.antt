@@ -12,3 +12,6 @@ pub mod CommandFaults
 pub mod Sent
 pub mod Differences
 pub mod JobRules
+pub mod Queries
+pub mod Definitions
+pub mod PlainTexts

@@ -11,11 +11,11 @@ use std::io::Print;
 use std::marker::Brand;
 use std::sync::Wait;
 use std::sync::ledger::{Blank, Ledger};
+use test_support::key;
 use wh_cache::Sticky;
-use wh_histories::key;
 use wh_host::{Config, Given, Host, HostState, OpenFault};
 use wh_ledger::{Books, Seat};
-use wh_poll::{NoActivities, OpenGate, Served, SourceFault, TaskSource, serve_one};
+use wh_poll::{NoActivities, Served, SourceFault, TaskSource, serve_one};
 use wh_sample_workflows::Nap;
 use wh_slots::{Held, SlotKind, Slots, TaskName};
 
@@ -47,7 +47,7 @@ pub(crate) fn open_cache<R: Print>(rt: &R, alloc: Global, name: &str) -> Option<
     say_nothing(rt, name, "before");
     let opened = Sticky::<Nap>::open(alloc, 3, 0);
     let answer = match &opened {
-        Ok(cache) => Ok((cache.len(), cache.held())),
+        Ok(cache) => Ok((cache.len(), cache.total_weight())),
         Err(fault) => Err(*fault),
     };
     say(rt, name, "answer", &answer);
@@ -237,7 +237,7 @@ fn serve<R: Wait, T: Ledger, C: Ledger, F: Ledger, S: TaskSource>(
 ) -> Result<Served, SourceFault> {
     let mut handler = NoActivities { alloc };
     let kind = SlotKind::Workflow;
-    serve_one(rt, alloc, host, seat, source, &mut handler, &OpenGate, kind)
+    serve_one(rt, alloc, host, seat, source, &mut handler, kind)
 }
 
 /// Serves the next task of a source, and prints the answer and the counts.

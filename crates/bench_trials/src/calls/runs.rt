@@ -5,9 +5,9 @@ ghost use Rattle.std.specs.Prelude.{◌≡◌, IfSome};
 use crate::calls::saying::{run_of, run_over, say, say_answer, say_nothing, say_run};
 use std::alloc::Global;
 use std::io::Print;
+use test_support::{events, events_after, key};
 use wh_cache::{Put, Sticky};
 use wh_events::{Event, RunKey};
-use wh_histories::{events, events_after, key};
 use wh_poll::{StepFault, Stepped, replay_task};
 use wh_recorded::ScriptSource;
 use wh_replay::{AdvanceFault, Run, RunFault, check};
@@ -135,7 +135,7 @@ pub(crate) fn put_seen(put: &Put<Nap>) -> (&'static str, Option<usize>) {
 
 /// Prints how many runs and how many events a cache holds, and how many events under a key.
 fn say_cache<R: Print>(rt: &R, name: &str, part: &str, cache: &Sticky<Nap>, key: &RunKey) {
-    let seen = (cache.len(), cache.held(), cache.peek_len(key));
+    let seen = (cache.len(), cache.total_weight(), cache.peek_len(key));
     say(rt, name, part, &seen);
 }
 

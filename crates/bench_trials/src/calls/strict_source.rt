@@ -58,14 +58,14 @@ impl TaskSource for StrictSource {
         self.script.whole(key, up_to)
     }
 
-    fn answer_workflow(&mut self, name: TaskName, answer: &Answer) -> Result<(), SourceFault> {
+    fn answer_workflow(&mut self, name: TaskName, answer: Answer) -> Result<(), SourceFault> {
         self.script.answer_workflow(name, answer)
     }
 
     fn answer_replayed(
         &mut self,
         name: TaskName,
-        answer: &Answer,
+        answer: Answer,
         _events: &[Event],
         _steps: u64,
     ) -> Acceptance {
@@ -90,7 +90,7 @@ impl TaskSource for StrictSource {
     fn answer_activity(
         &mut self,
         name: TaskName,
-        answer: &ActivityAnswer,
+        answer: ActivityAnswer,
     ) -> Result<(), SourceFault> {
         self.script.answer_activity(name, answer)
     }

@@ -3,9 +3,9 @@
 use crate::calls::saying::{say, say_answer, say_nothing, track_of};
 use std::alloc::Global;
 use std::io::Print;
+use test_support::events;
 use wh_activation::jobs;
 use wh_events::{Event, EventNo, OpenKind};
-use wh_histories::events;
 use wh_machines::Track;
 use wh_match::{Script, Versions};
 use wh_workflow::{Command, text_of};
@@ -78,7 +78,7 @@ pub(crate) fn reduced<R: Print>(rt: &R, alloc: Global, name: &str) -> Option<()>
     let is_marked = script.ask(None, &mut versions, "change", -1, 1).is_ok();
     drop(versions);
     say(rt, name, "before", &script);
-    say_answer(rt, name, script.reduced());
+    say_answer(rt, name, script.reduce());
     say_nothing(rt, name, "after");
     is_marked.then_some(())
 }

@@ -2,8 +2,8 @@
 ghost use Rattle.std.specs.Prelude.{◌≡◌, ◌↔◌, IsOk, OnOk, map, true};
 ghost use Rattle.bench_trials.specs.Sound.{IsSound};
 
+use crate::alike::are_alike;
 use crate::soak::serving::{Findings, Tally};
-use bench_answers::are_alike;
 use wh_host::Totals;
 
 /// Checks the totals of a closed host, and what its workers counted.

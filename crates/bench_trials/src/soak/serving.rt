@@ -18,7 +18,7 @@ use std::{io, thread};
 use wh_events::{OutOfMemory, RunKey};
 use wh_host::{Config, Evict, Host, Totals};
 use wh_ledger::Seat;
-use wh_poll::{NoActivities, OpenGate, WorkerEnd, WorkerSetup, run_on_host};
+use wh_poll::{NoActivities, WorkerEnd, WorkerSetup, run_on_host};
 use wh_recorded::ScriptSource;
 use wh_slots::{ReserveFault, SlotKind};
 use wh_workflow::Workflow;
@@ -218,7 +218,7 @@ fn serve_posts<
             requires state { IsSend W.State.row }
             requires seats { seats.items ≡ replicate (vec_len setups) no_shares }
         {
-            let ended = run_on_host(rt, alloc, host, seats, setups, &OpenGate);
+            let ended = run_on_host(rt, alloc, host, seats, setups);
             have_ended.store(true, Ordering::SeqCst);
             ended
         },

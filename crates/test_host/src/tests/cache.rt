@@ -2,10 +2,9 @@
 
 use std::alloc::Global;
 use std::process::Abort;
-use test_support::{Still, cut, next_number, row, same, shown};
+use test_support::{Still, cut, events_after, key, next_number, row, same, shown};
 use wh_cache::{MOST_CACHED_EVENTS, MOST_RUNS, Put, Sticky};
 use wh_events::{Event, EventKind, Items, Payload};
-use wh_histories::{events_after, key};
 use wh_replay::Run;
 use wh_workflow::Meter;
 
@@ -166,7 +165,7 @@ fn step_text(
     step: &'static str,
 ) -> String {
     let answer = answered(rt, alloc, cache, step);
-    let held = cache.held();
+    let held = cache.total_weight();
     format!(in alloc; "{answer}, holds {held}").expect(rt, "memory")
 }
 

@@ -1,5 +1,4 @@
-//! What tests of a host need: a gate, a source and a handler of activities, which note each call of
-//! a worker.
+//! What tests of a host need: a source and a handler of activities, which note each call of a worker.
 
 use std::alloc::Global;
 use std::fmt::Debug;
@@ -7,12 +6,11 @@ use std::process::Abort;
 use std::sync::ledger::Ledger;
 use std::sync::{Mutex, Wait};
 use std::{mem, thread};
-use test_support::{Scripted, cut, push, row, shown};
+use test_support::{Scripted, cut, events_after, key, push, row, shown};
 use wh_events::{Event, Items, OutOfMemory, Payload, RunKey};
-use wh_histories::{events_after, key};
 use wh_host::Host;
 use wh_poll::{
-    Acceptance, ActivityAnswer, ActivityHandler, ActivityTask, Gate, Polled, RunUse, SourceFault,
+    Acceptance, ActivityAnswer, ActivityHandler, ActivityTask, Polled, RunUse, SourceFault,
     TaskSource, WorkflowTask, last_number,
 };
 use wh_recorded::ScriptSource;
@@ -44,15 +42,15 @@ pub(crate) fn script(rt: &impl Abort, alloc: Global, table: &'static str) -> Scr
 /// The workflows of a host: the samples, and the one that signals control.
 pub(crate) type Workflows = Pair<All, Scripted>;
 
-/// Notes calls, and is a gate. It takes the host's lock at each call, so that a call that is made
-/// under the lock waits forever.
+/// Notes calls. It takes the host's lock at each call, so that a call that is made under the lock
+/// waits forever.
 #[derive(Drop)]
 pub(crate) struct Notebook<'r, 'h, R: Wait + Abort, T: Ledger, C: Ledger, F: Ledger> {
     pub(crate) rt: &'r R,
     pub(crate) alloc: Global,
     pub(crate) host: &'h Host<Workflows, T, C, F>,
-    /// What happens when tasks enter, and the answers whose runs are discarded, each after the call
-    /// that it follows.
+    /// What follows answers, each after the answer: a call is awaited, a run is evicted, the host
+    /// drains, or the run of the task is discarded.
     deeds: &'static str,
     calls: Mutex<String>,
 }
@@ -99,10 +97,10 @@ impl<'r, 'h, R: Wait + Abort, T: Ledger, C: Ledger, F: Ledger> Notebook<'r, 'h, 
         self.calls.lock(self.rt).as_str().contains(call)
     }
 
-    /// Waits until a call is noted, and checks at most ten million times. Each check takes the lock
-    /// of the notes.
+    /// Waits until the answer to a task is noted, and checks at most ten million times. Each check
+    /// takes the lock of the notes.
     fn await_call(&self, call: &str) {
-        let call = format!(in self.alloc; "{call}, ").expect(self.rt, "memory");
+        let call = format!(in self.alloc; "{call} ").expect(self.rt, "memory");
         for _look in 0..10_000_000 {
             if self.is_noted(call.as_str()) {
                 return;
@@ -141,23 +139,24 @@ impl<'r, 'h, R: Wait + Abort, T: Ledger, C: Ledger, F: Ledger> Notebook<'r, 'h, 
         run
     }
 
-    /// Does a deed: waits for a call, evicts a run, or drains the host.
+    /// Does a deed: waits for a call, evicts a run, or drains the host. To discard a run is none.
     fn act(&self, deed: &str) {
         match deed.split_once(' ') {
             Some(("await", call)) => self.await_call(call),
             Some(("evict", run)) => self.evict(run),
-            _ => self.host.lock(self.rt).drain(),
+            _ => {
+                if deed == "drain" {
+                    self.host.lock(self.rt).drain();
+                }
+            }
         }
     }
-}
 
-impl<'r, 'h, R: Wait + Abort, T: Ledger, C: Ledger, F: Ledger> Gate
-    for Notebook<'r, 'h, R, T, C, F> {
-    fn enter<Q: Wait>(&self, _rt: &Q, name: TaskName) {
-        let call = format!(in self.alloc; "enter {}, ", name.0).expect(self.rt, "memory");
-        self.note(call.as_str());
+    /// Does what follows the answer to a task.
+    fn act_after(&self, name: TaskName) {
+        let answer = format!(in self.alloc; "answer {}, ", name.0).expect(self.rt, "memory");
         for deed in self.deeds.split("; ") {
-            if let Some(deed) = deed.strip_prefix(call.as_str()) {
+            if let Some(deed) = deed.strip_prefix(answer.as_str()) {
                 self.act(deed);
             }
         }
@@ -250,15 +249,16 @@ impl<'b, 'r, 'h, R: Wait + Abort, T: Ledger, C: Ledger, F: Ledger> TaskSource
         self.script.whole(key, up_to)
     }
 
-    fn answer_workflow(&mut self, name: TaskName, answer: &Answer) -> Result<(), SourceFault> {
-        self.book.note_answer(name, answer);
+    fn answer_workflow(&mut self, name: TaskName, answer: Answer) -> Result<(), SourceFault> {
+        self.book.note_answer(name, &answer);
+        self.book.act_after(name);
         self.script.answer_workflow(name, answer)
     }
 
     fn answer_replayed(
         &mut self,
         name: TaskName,
-        answer: &Answer,
+        answer: Answer,
         events: &[Event],
         steps: u64,
     ) -> Acceptance {
@@ -274,9 +274,9 @@ impl<'b, 'r, 'h, R: Wait + Abort, T: Ledger, C: Ledger, F: Ledger> TaskSource
     fn answer_activity(
         &mut self,
         name: TaskName,
-        answer: &ActivityAnswer,
+        answer: ActivityAnswer,
     ) -> Result<(), SourceFault> {
-        self.book.note_answer(name, answer);
+        self.book.note_answer(name, &answer);
         self.script.answer_activity(name, answer)
     }
 }

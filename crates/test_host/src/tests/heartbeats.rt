@@ -6,7 +6,7 @@ use std::process::Abort;
 use std::sync::Wait;
 use test_support::{cut, next_number, row, same, wants};
 use wh_events::{Items, Payload, Text};
-use wh_heartbeat::{ActivityCell, ActivityInfo, ActivityTimes, HeartbeatResponse, HeartbeatStep};
+use wh_tasks::{ActivityCell, ActivityInfo, ActivityTimes, HeartbeatResponse, HeartbeatStep};
 use wh_workflow::text_of;
 
 /// The Heartbeat Timeout of a task, followed by what happens, and what then is sent or told: `beat`

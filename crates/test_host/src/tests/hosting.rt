@@ -9,18 +9,17 @@ use std::marker::Brand;
 use std::process::Abort;
 use std::sync::Wait;
 use std::sync::ledger::{Blank, Ledger};
-use test_support::{cut, next_number, push, row, same, shown};
-use wh_faulty::FaultySource;
-use wh_histories::key;
+use test_support::{cut, key, next_number, push, row, same, shown};
 use wh_host::{Config, Counts, Host, Outcome, Totals};
 use wh_ledger::Seat;
 use wh_poll::{SourceFault, Worker, serve_one, work};
 use wh_replay::Run;
+use wh_samples::FaultySource;
 use wh_slots::{Held, Permit, SlotKind, TaskName};
 
 /// The setting of a host and its source: the sizes, which call of the source fails, its script and
-/// the words of its polls, what happens when tasks enter, and which runs are discarded. Then the
-/// steps, and the number of turns of a worker.
+/// the words of its polls, and what follows answers. Then the steps, and the number of turns of a
+/// worker.
 #[derive(Drop)]
 pub(crate) struct Day {
     pub(crate) config: Config,
@@ -35,83 +34,83 @@ pub(crate) struct Day {
 
 /// Days of a host. The first line says what a day shows. The second one has its setting: the sizes
 /// of the host and which call fails, how many turns a worker does at the end, and after `|` the
-/// script, the words of the polls of both kinds, and what happens when tasks enter, with the
-/// answers whose runs are discarded. Then come steps, each with the calls that it makes and its
-/// answer. The end has the calls of the worker, the first fault of its source, and the counts.
+/// script, the words of the polls of both kinds, and what follows answers. Then come steps, each
+/// with the calls that it makes and its answer. The end has the calls of the worker, the first fault
+/// of its source, and the counts.
 ///
 /// The names of the tasks of file 1 begin at 2^64, those of file 2 at 2^65.
 const DAYS: &str = "\
 A cached run replays its second task alone.
 2 1 1 0 1 0 0 | 0 nap => nap
-workflow => poll, enter 3, answer 3 Complete([StartTimer id: nap, seconds: 60]), Ok(Workflow name: TaskName(3), hit: false, steps: 2, outcome: Completed)
-workflow => poll, enter 8, answer 8 Complete([Complete result: []]), Ok(Workflow name: TaskName(8), hit: true, steps: 2, outcome: Completed)
+workflow => poll, answer 3 Complete([StartTimer id: nap, seconds: 60]), Ok(Workflow name: TaskName(3), hit: false, steps: 2, outcome: Completed)
+workflow => poll, answer 8 Complete([Complete result: []]), Ok(Workflow name: TaskName(8), hit: true, steps: 2, outcome: Completed)
 workflow => poll, Ok(Closed)
 activity => poll activities, Ok(Closed)
 end => None, Counts taken: 2, completed: 2, failed: 0, in_hand: 0, cached: 1, cached_events: 8, workflow: SlotCount free: 2, reserved: 0, held: 0, activity: SlotCount free: 1, reserved: 0, held: 0
 
-Without a cache both tasks are replayed. The gate is entered before replay.
+Without a cache both tasks are replayed.
 2 1 0 0 1 0 0 | 0 nap => nap
-workflow => poll, enter 3, answer 3 Complete([StartTimer id: nap, seconds: 60]), Ok(Workflow name: TaskName(3), hit: false, steps: 2, outcome: Completed)
-workflow => poll, enter 8, whole nap 8, answer 8 Complete([Complete result: []]), Ok(Workflow name: TaskName(8), hit: false, steps: 4, outcome: Completed)
+workflow => poll, answer 3 Complete([StartTimer id: nap, seconds: 60]), Ok(Workflow name: TaskName(3), hit: false, steps: 2, outcome: Completed)
+workflow => poll, whole nap 8, answer 8 Complete([Complete result: []]), Ok(Workflow name: TaskName(8), hit: false, steps: 4, outcome: Completed)
 workflow => poll, Ok(Closed)
 end => None, Counts taken: 2, completed: 2, failed: 0, in_hand: 0, cached: 0, cached_events: 0, workflow: SlotCount free: 2, reserved: 0, held: 0, activity: SlotCount free: 1, reserved: 0, held: 0
 
 A run that is not cached answers each task from the first event.
 2 1 0 0 1 0 0 | 0 a => nap, 1 b => nap, 2 c => nap
-workflow => poll, enter 3, answer 3 Complete([StartTimer id: nap, seconds: 60]), Ok(Workflow name: TaskName(3), hit: false, steps: 2, outcome: Completed)
-workflow => poll, enter 18446744073709551619, answer 18446744073709551619 Complete([StartTimer id: nap, seconds: 60]), Ok(Workflow name: TaskName(18446744073709551619), hit: false, steps: 2, outcome: Completed)
-workflow => poll, enter 36893488147419103235, answer 36893488147419103235 Complete([StartTimer id: nap, seconds: 60]), Ok(Workflow name: TaskName(36893488147419103235), hit: false, steps: 2, outcome: Completed)
-workflow => poll, enter 8, whole a 8, answer 8 Complete([Complete result: []]), Ok(Workflow name: TaskName(8), hit: false, steps: 4, outcome: Completed)
-workflow => poll, enter 18446744073709551624, whole b 8, answer 18446744073709551624 Complete([Complete result: []]), Ok(Workflow name: TaskName(18446744073709551624), hit: false, steps: 4, outcome: Completed)
-workflow => poll, enter 36893488147419103240, whole c 8, answer 36893488147419103240 Complete([Complete result: []]), Ok(Workflow name: TaskName(36893488147419103240), hit: false, steps: 4, outcome: Completed)
+workflow => poll, answer 3 Complete([StartTimer id: nap, seconds: 60]), Ok(Workflow name: TaskName(3), hit: false, steps: 2, outcome: Completed)
+workflow => poll, answer 18446744073709551619 Complete([StartTimer id: nap, seconds: 60]), Ok(Workflow name: TaskName(18446744073709551619), hit: false, steps: 2, outcome: Completed)
+workflow => poll, answer 36893488147419103235 Complete([StartTimer id: nap, seconds: 60]), Ok(Workflow name: TaskName(36893488147419103235), hit: false, steps: 2, outcome: Completed)
+workflow => poll, whole a 8, answer 8 Complete([Complete result: []]), Ok(Workflow name: TaskName(8), hit: false, steps: 4, outcome: Completed)
+workflow => poll, whole b 8, answer 18446744073709551624 Complete([Complete result: []]), Ok(Workflow name: TaskName(18446744073709551624), hit: false, steps: 4, outcome: Completed)
+workflow => poll, whole c 8, answer 36893488147419103240 Complete([Complete result: []]), Ok(Workflow name: TaskName(36893488147419103240), hit: false, steps: 4, outcome: Completed)
 workflow => poll, Ok(Closed)
 end => None, Counts taken: 6, completed: 6, failed: 0, in_hand: 0, cached: 0, cached_events: 0, workflow: SlotCount free: 2, reserved: 0, held: 0, activity: SlotCount free: 1, reserved: 0, held: 0
 
 A run that is no longer cached answers as one that never was.
 2 1 2 0 1 0 0 | 0 a => nap, 1 b => nap, 2 c => nap
-workflow => poll, enter 3, answer 3 Complete([StartTimer id: nap, seconds: 60]), Ok(Workflow name: TaskName(3), hit: false, steps: 2, outcome: Completed)
-workflow => poll, enter 18446744073709551619, answer 18446744073709551619 Complete([StartTimer id: nap, seconds: 60]), Ok(Workflow name: TaskName(18446744073709551619), hit: false, steps: 2, outcome: Completed)
-workflow => poll, enter 36893488147419103235, answer 36893488147419103235 Complete([StartTimer id: nap, seconds: 60]), Ok(Workflow name: TaskName(36893488147419103235), hit: false, steps: 2, outcome: Completed)
-workflow => poll, enter 8, whole a 8, answer 8 Complete([Complete result: []]), Ok(Workflow name: TaskName(8), hit: false, steps: 4, outcome: Completed)
-workflow => poll, enter 18446744073709551624, whole b 8, answer 18446744073709551624 Complete([Complete result: []]), Ok(Workflow name: TaskName(18446744073709551624), hit: false, steps: 4, outcome: Completed)
-workflow => poll, enter 36893488147419103240, whole c 8, answer 36893488147419103240 Complete([Complete result: []]), Ok(Workflow name: TaskName(36893488147419103240), hit: false, steps: 4, outcome: Completed)
+workflow => poll, answer 3 Complete([StartTimer id: nap, seconds: 60]), Ok(Workflow name: TaskName(3), hit: false, steps: 2, outcome: Completed)
+workflow => poll, answer 18446744073709551619 Complete([StartTimer id: nap, seconds: 60]), Ok(Workflow name: TaskName(18446744073709551619), hit: false, steps: 2, outcome: Completed)
+workflow => poll, answer 36893488147419103235 Complete([StartTimer id: nap, seconds: 60]), Ok(Workflow name: TaskName(36893488147419103235), hit: false, steps: 2, outcome: Completed)
+workflow => poll, whole a 8, answer 8 Complete([Complete result: []]), Ok(Workflow name: TaskName(8), hit: false, steps: 4, outcome: Completed)
+workflow => poll, whole b 8, answer 18446744073709551624 Complete([Complete result: []]), Ok(Workflow name: TaskName(18446744073709551624), hit: false, steps: 4, outcome: Completed)
+workflow => poll, whole c 8, answer 36893488147419103240 Complete([Complete result: []]), Ok(Workflow name: TaskName(36893488147419103240), hit: false, steps: 4, outcome: Completed)
 workflow => poll, Ok(Closed)
 end => None, Counts taken: 6, completed: 6, failed: 0, in_hand: 0, cached: 2, cached_events: 16, workflow: SlotCount free: 2, reserved: 0, held: 0, activity: SlotCount free: 1, reserved: 0, held: 0
 
 An answer that is not sent: the run is cached all the same, and the next task goes on from it.
 2 1 1 0 1 2 0 | 0 nap => nap
-workflow => poll, enter 3, Err(Source)
+workflow => poll, Err(Source)
 counts => Counts taken: 1, completed: 0, failed: 1, in_hand: 0, cached: 1, cached_events: 3, workflow: SlotCount free: 2, reserved: 0, held: 0, activity: SlotCount free: 1, reserved: 0, held: 0
-workflow => poll, enter 8, answer 8 Complete([Complete result: []]), Ok(Workflow name: TaskName(8), hit: true, steps: 2, outcome: Completed)
+workflow => poll, answer 8 Complete([Complete result: []]), Ok(Workflow name: TaskName(8), hit: true, steps: 2, outcome: Completed)
 workflow => poll, Ok(Closed)
 end => None, Counts taken: 2, completed: 1, failed: 1, in_hand: 0, cached: 1, cached_events: 8, workflow: SlotCount free: 2, reserved: 0, held: 0, activity: SlotCount free: 1, reserved: 0, held: 0
 
 An answer that is not sent, and a larger cache.
 2 1 100 0 1 2 0 | 0 nap => nap
-workflow => poll, enter 3, Err(Source)
+workflow => poll, Err(Source)
 counts => Counts taken: 1, completed: 0, failed: 1, in_hand: 0, cached: 1, cached_events: 3, workflow: SlotCount free: 2, reserved: 0, held: 0, activity: SlotCount free: 1, reserved: 0, held: 0
-workflow => poll, enter 8, answer 8 Complete([Complete result: []]), Ok(Workflow name: TaskName(8), hit: true, steps: 2, outcome: Completed)
+workflow => poll, answer 8 Complete([Complete result: []]), Ok(Workflow name: TaskName(8), hit: true, steps: 2, outcome: Completed)
 workflow => poll, Ok(Closed)
 end => None, Counts taken: 2, completed: 1, failed: 1, in_hand: 0, cached: 1, cached_events: 8, workflow: SlotCount free: 2, reserved: 0, held: 0, activity: SlotCount free: 1, reserved: 0, held: 0
 
 A run whose answer does not count is discarded, and the next task asks for the whole history.
 2 1 1 0 1 0 0 | 0 nap => nap | next | next | answer 3, discard
-workflow => poll, enter 3, answer 3 Complete([StartTimer id: nap, seconds: 60]), discard 3 after 2, Ok(Workflow name: TaskName(3), hit: false, steps: 2, outcome: Completed)
+workflow => poll, answer 3 Complete([StartTimer id: nap, seconds: 60]), discard 3 after 2, Ok(Workflow name: TaskName(3), hit: false, steps: 2, outcome: Completed)
 counts => Counts taken: 1, completed: 1, failed: 0, in_hand: 0, cached: 0, cached_events: 0, workflow: SlotCount free: 2, reserved: 0, held: 0, activity: SlotCount free: 1, reserved: 0, held: 0
-workflow => poll, enter 8, whole nap 8, answer 8 Complete([Complete result: []]), Ok(Workflow name: TaskName(8), hit: false, steps: 4, outcome: Completed)
+workflow => poll, whole nap 8, answer 8 Complete([Complete result: []]), Ok(Workflow name: TaskName(8), hit: false, steps: 4, outcome: Completed)
 end => None, Counts taken: 2, completed: 2, failed: 0, in_hand: 0, cached: 1, cached_events: 8, workflow: SlotCount free: 2, reserved: 0, held: 0, activity: SlotCount free: 1, reserved: 0, held: 0
 
 A run that was cached is discarded where the answer to its next task does not count.
 2 1 1 0 1 0 0 | 0 nap => nap | next | next | answer 8, discard
-workflow => poll, enter 3, answer 3 Complete([StartTimer id: nap, seconds: 60]), Ok(Workflow name: TaskName(3), hit: false, steps: 2, outcome: Completed)
-workflow => poll, enter 8, answer 8 Complete([Complete result: []]), discard 8 after 2, Ok(Workflow name: TaskName(8), hit: true, steps: 2, outcome: Completed)
+workflow => poll, answer 3 Complete([StartTimer id: nap, seconds: 60]), Ok(Workflow name: TaskName(3), hit: false, steps: 2, outcome: Completed)
+workflow => poll, answer 8 Complete([Complete result: []]), discard 8 after 2, Ok(Workflow name: TaskName(8), hit: true, steps: 2, outcome: Completed)
 end => None, Counts taken: 2, completed: 2, failed: 0, in_hand: 0, cached: 0, cached_events: 0, workflow: SlotCount free: 2, reserved: 0, held: 0, activity: SlotCount free: 1, reserved: 0, held: 0
 
 An answer that is not sent, of a source that caches no run without an answer.
 2 1 1 0 1 2 0 | 0 nap => nap | next | next | no answer, discard
-workflow => poll, enter 3, Err(Source)
+workflow => poll, Err(Source)
 counts => Counts taken: 1, completed: 0, failed: 1, in_hand: 0, cached: 0, cached_events: 0, workflow: SlotCount free: 2, reserved: 0, held: 0, activity: SlotCount free: 1, reserved: 0, held: 0
-workflow => poll, enter 8, whole nap 8, answer 8 Complete([Complete result: []]), Ok(Workflow name: TaskName(8), hit: false, steps: 4, outcome: Completed)
+workflow => poll, whole nap 8, answer 8 Complete([Complete result: []]), Ok(Workflow name: TaskName(8), hit: false, steps: 4, outcome: Completed)
 end => None, Counts taken: 2, completed: 1, failed: 1, in_hand: 0, cached: 1, cached_events: 8, workflow: SlotCount free: 2, reserved: 0, held: 0, activity: SlotCount free: 1, reserved: 0, held: 0
 
 A task that is in hand comes again.
@@ -126,7 +125,7 @@ end => None, Counts taken: 2, completed: 0, failed: 0, in_hand: 2, cached: 0, ca
 Tasks of both kinds, and polls that give none.
 1 1 1 0 1 0 0 | 0 w => start:Scripted S*5 T | nothing | 8; nothing
 workflow => poll, Ok(Idle)
-workflow => poll, enter 7, answer 7 Complete([]), Ok(Workflow name: TaskName(7), hit: false, steps: 2, outcome: Completed)
+workflow => poll, answer 7 Complete([]), Ok(Workflow name: TaskName(7), hit: false, steps: 2, outcome: Completed)
 activity => poll activities, run, answer 8 Completed([Payload encoding: [], content: [112]]), Ok(Activity name: TaskName(8), outcome: Completed)
 workflow => poll, Ok(Closed)
 activity => poll activities, Ok(Idle)
@@ -146,8 +145,8 @@ activity => Err(Source)
 end => None, Counts taken: 0, completed: 0, failed: 0, in_hand: 0, cached: 0, cached_events: 0, workflow: SlotCount free: 1, reserved: 0, held: 0, activity: SlotCount free: 1, reserved: 0, held: 0
 
 A run in hand is evicted.
-1 1 1 0 1 0 0 | 0 nap => nap | next | next | enter 3, evict nap
-workflow => poll, enter 3, evict nap Marked, answer 3 Complete([StartTimer id: nap, seconds: 60]), Ok(Workflow name: TaskName(3), hit: false, steps: 2, outcome: Completed)
+1 1 1 0 1 0 0 | 0 nap => nap | next | next | answer 3, evict nap
+workflow => poll, answer 3 Complete([StartTimer id: nap, seconds: 60]), evict nap Marked, Ok(Workflow name: TaskName(3), hit: false, steps: 2, outcome: Completed)
 end => None, Counts taken: 1, completed: 1, failed: 0, in_hand: 0, cached: 0, cached_events: 0, workflow: SlotCount free: 1, reserved: 0, held: 0, activity: SlotCount free: 1, reserved: 0, held: 0
 
 No place is free, and then the host drains: the source is not polled.
@@ -167,39 +166,39 @@ end => None, Counts taken: 2, completed: 2, failed: 0, in_hand: 0, cached: 0, ca
 
 The cached runs hold at most three events together.
 2 1 10 3 1 0 0 | 0 a => nap, 1 b => nap
-workflow => poll, enter 3, answer 3 Complete([StartTimer id: nap, seconds: 60]), Ok(Workflow name: TaskName(3), hit: false, steps: 2, outcome: Completed)
+workflow => poll, answer 3 Complete([StartTimer id: nap, seconds: 60]), Ok(Workflow name: TaskName(3), hit: false, steps: 2, outcome: Completed)
 counts => Counts taken: 1, completed: 1, failed: 0, in_hand: 0, cached: 1, cached_events: 3, workflow: SlotCount free: 2, reserved: 0, held: 0, activity: SlotCount free: 1, reserved: 0, held: 0
-workflow => poll, enter 18446744073709551619, answer 18446744073709551619 Complete([StartTimer id: nap, seconds: 60]), Ok(Workflow name: TaskName(18446744073709551619), hit: false, steps: 2, outcome: Completed)
+workflow => poll, answer 18446744073709551619 Complete([StartTimer id: nap, seconds: 60]), Ok(Workflow name: TaskName(18446744073709551619), hit: false, steps: 2, outcome: Completed)
 counts => Counts taken: 2, completed: 2, failed: 0, in_hand: 0, cached: 1, cached_events: 3, workflow: SlotCount free: 2, reserved: 0, held: 0, activity: SlotCount free: 1, reserved: 0, held: 0
-workflow => poll, enter 8, whole a 8, answer 8 Complete([Complete result: []]), Ok(Workflow name: TaskName(8), hit: false, steps: 4, outcome: Completed)
+workflow => poll, whole a 8, answer 8 Complete([Complete result: []]), Ok(Workflow name: TaskName(8), hit: false, steps: 4, outcome: Completed)
 counts => Counts taken: 3, completed: 3, failed: 0, in_hand: 0, cached: 1, cached_events: 3, workflow: SlotCount free: 2, reserved: 0, held: 0, activity: SlotCount free: 1, reserved: 0, held: 0
-workflow => poll, enter 18446744073709551624, answer 18446744073709551624 Complete([Complete result: []]), Ok(Workflow name: TaskName(18446744073709551624), hit: true, steps: 2, outcome: Completed)
+workflow => poll, answer 18446744073709551624 Complete([Complete result: []]), Ok(Workflow name: TaskName(18446744073709551624), hit: true, steps: 2, outcome: Completed)
 end => None, Counts taken: 4, completed: 4, failed: 0, in_hand: 0, cached: 0, cached_events: 0, workflow: SlotCount free: 2, reserved: 0, held: 0, activity: SlotCount free: 1, reserved: 0, held: 0
 
 After events that are no task the run is given back.
 1 1 1 0 1 0 0 | 0 nap => nap | next; nap nap/6 after 3
-workflow => poll, enter 3, answer 3 Complete([StartTimer id: nap, seconds: 60]), Ok(Workflow name: TaskName(3), hit: false, steps: 2, outcome: Completed)
-workflow => poll, enter 6, answer 6 Fail(NotATask), Ok(Workflow name: TaskName(6), hit: true, steps: 0, outcome: Failed)
-workflow => poll, enter 8, answer 8 Complete([Complete result: []]), Ok(Workflow name: TaskName(8), hit: true, steps: 2, outcome: Completed)
+workflow => poll, answer 3 Complete([StartTimer id: nap, seconds: 60]), Ok(Workflow name: TaskName(3), hit: false, steps: 2, outcome: Completed)
+workflow => poll, answer 6 Fail(NotATask), Ok(Workflow name: TaskName(6), hit: true, steps: 0, outcome: Failed)
+workflow => poll, answer 8 Complete([Complete result: []]), Ok(Workflow name: TaskName(8), hit: true, steps: 2, outcome: Completed)
 end => None, Counts taken: 3, completed: 2, failed: 1, in_hand: 0, cached: 1, cached_events: 8, workflow: SlotCount free: 1, reserved: 0, held: 0, activity: SlotCount free: 1, reserved: 0, held: 0
 
 A run that comes out of the cache goes on as it would have.
 2 1 1 0 1 0 0 | 0 nap => nap/3
-workflow => poll, enter 3, answer 3 Complete([StartTimer id: nap, seconds: 60]), Ok(Workflow name: TaskName(3), hit: false, steps: 2, outcome: Completed)
+workflow => poll, answer 3 Complete([StartTimer id: nap, seconds: 60]), Ok(Workflow name: TaskName(3), hit: false, steps: 2, outcome: Completed)
 workflow => poll, Ok(Closed)
 advance nap/8 => 2 steps, holds 8, [Complete result: []]
 end => None, Counts taken: 2, completed: 2, failed: 0, in_hand: 0, cached: 0, cached_events: 0, workflow: SlotCount free: 2, reserved: 0, held: 0, activity: SlotCount free: 1, reserved: 0, held: 0
 
 A run that comes out of the cache refuses events with a gap before them.
 2 1 1 0 1 0 0 | 0 nap => nap/3
-workflow => poll, enter 3, answer 3 Complete([StartTimer id: nap, seconds: 60]), Ok(Workflow name: TaskName(3), hit: false, steps: 2, outcome: Completed)
+workflow => poll, answer 3 Complete([StartTimer id: nap, seconds: 60]), Ok(Workflow name: TaskName(3), hit: false, steps: 2, outcome: Completed)
 workflow => poll, Ok(Closed)
 advance nap/3 after 2 => Gap, 0 steps, holds 3, [StartTimer id: nap, seconds: 60]
 end => None, Counts taken: 2, completed: 2, failed: 0, in_hand: 0, cached: 0, cached_events: 0, workflow: SlotCount free: 2, reserved: 0, held: 0, activity: SlotCount free: 1, reserved: 0, held: 0
 
 A run that comes out of the cache refuses events that end in no task.
 2 1 1 0 1 0 0 | 0 nap => nap/3
-workflow => poll, enter 3, answer 3 Complete([StartTimer id: nap, seconds: 60]), Ok(Workflow name: TaskName(3), hit: false, steps: 2, outcome: Completed)
+workflow => poll, answer 3 Complete([StartTimer id: nap, seconds: 60]), Ok(Workflow name: TaskName(3), hit: false, steps: 2, outcome: Completed)
 workflow => poll, Ok(Closed)
 advance nap/6 after 3 => NotATask, 0 steps, holds 3, [StartTimer id: nap, seconds: 60]
 end => None, Counts taken: 2, completed: 2, failed: 0, in_hand: 0, cached: 0, cached_events: 0, workflow: SlotCount free: 2, reserved: 0, held: 0, activity: SlotCount free: 1, reserved: 0, held: 0";
@@ -259,7 +258,7 @@ fn turn<R: Wait + Abort, T: Ledger, C: Ledger, F: Ledger>(
 ) -> String {
     let (rt, alloc) = (book.rt, book.alloc);
     let mut handler = Echo { book };
-    let served = serve_one(rt, alloc, book.host, seat, source, &mut handler, book, kind);
+    let served = serve_one(rt, alloc, book.host, seat, source, &mut handler, kind);
     let mut text = book.calls();
     text.push_str(shown(alloc, &served).expect(rt, "memory").as_str())
         .expect(rt, "memory");
@@ -423,7 +422,7 @@ fn worked<R: Wait + Abort, T: Ledger, C: Ledger, F: Ledger>(
     let source = noted_source(book, day);
     let handler = Echo { book };
     let (rt, alloc) = (book.rt, book.alloc);
-    let worker = work(rt, alloc, book.host, seat, source, handler, book, day.turns);
+    let worker = work(rt, alloc, book.host, seat, source, handler, day.turns);
     let (seat, fault) = left(worker);
     (seat, fault, book.calls())
 }

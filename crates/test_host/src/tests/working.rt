@@ -2,7 +2,7 @@
 
 ghost use Rattle.std.specs.Prelude.{◌≡◌};
 
-use crate::tests::fixtures::{Notebook, Workflows, activity_task, script};
+use crate::tests::fixtures::{Notebook, NotedSource, Workflows, activity_task, script};
 use crate::tests::host::{open, sizes};
 use crate::tests::hosting::{Day, close, left, pass, spent};
 use std::alloc::Global;
@@ -13,12 +13,11 @@ use std::sync::{Mutex, Wait};
 use std::thread::Threads;
 use std::time::{Clock, Duration};
 use test_support::{cut, next_number, push, wants};
-use wh_companion::{Companion, EndSignal};
-use wh_host::{Config, Counts};
+use wh_host::{Companion, Config, Counts, EndSignal, Host, accompany};
 use wh_ledger::Seat;
 use wh_poll::{
-    ActivityHandler, NoActivities, NoObserver, OpenGate, Worker, WorkerSetup, run_host_beside,
-    run_on_host, run_workers,
+    ActivityHandler, NoActivities, NoObserver, Worker, WorkerSetup, run_beside, run_on_host,
+    run_workers,
 };
 use wh_recorded::ScriptSource;
 
@@ -26,35 +25,35 @@ use wh_recorded::ScriptSource;
 const SHIFTS: &str = "\
 Of two tasks the first answer fails.
 2 1 100 0 1 2 5 | 0 nap => nap
-end => poll, enter 3, poll activities, poll, enter 8, answer 8 Complete([Complete result: []]), poll, Some(Source), Counts taken: 2, completed: 1, failed: 1, in_hand: 0, cached: 1, cached_events: 8, workflow: SlotCount free: 2, reserved: 0, held: 0, activity: SlotCount free: 1, reserved: 0, held: 0
+end => poll, poll activities, poll, answer 8 Complete([Complete result: []]), poll, Some(Source), Counts taken: 2, completed: 1, failed: 1, in_hand: 0, cached: 1, cached_events: 8, workflow: SlotCount free: 2, reserved: 0, held: 0, activity: SlotCount free: 1, reserved: 0, held: 0
 
 Of two tasks a poll of activities fails.
 2 1 100 0 1 3 5 | 0 nap => nap
-end => poll, enter 3, answer 3 Complete([StartTimer id: nap, seconds: 60]), poll, enter 8, answer 8 Complete([Complete result: []]), poll activities, poll, Some(Source), Counts taken: 2, completed: 2, failed: 0, in_hand: 0, cached: 1, cached_events: 8, workflow: SlotCount free: 2, reserved: 0, held: 0, activity: SlotCount free: 1, reserved: 0, held: 0
+end => poll, answer 3 Complete([StartTimer id: nap, seconds: 60]), poll, answer 8 Complete([Complete result: []]), poll activities, poll, Some(Source), Counts taken: 2, completed: 2, failed: 0, in_hand: 0, cached: 1, cached_events: 8, workflow: SlotCount free: 2, reserved: 0, held: 0, activity: SlotCount free: 1, reserved: 0, held: 0
 
 Of two tasks the second poll fails.
 2 1 100 0 1 4 5 | 0 nap => nap
-end => poll, enter 3, answer 3 Complete([StartTimer id: nap, seconds: 60]), poll activities, poll, enter 8, answer 8 Complete([Complete result: []]), poll, Some(Source), Counts taken: 2, completed: 2, failed: 0, in_hand: 0, cached: 1, cached_events: 8, workflow: SlotCount free: 2, reserved: 0, held: 0, activity: SlotCount free: 1, reserved: 0, held: 0
+end => poll, answer 3 Complete([StartTimer id: nap, seconds: 60]), poll activities, poll, answer 8 Complete([Complete result: []]), poll, Some(Source), Counts taken: 2, completed: 2, failed: 0, in_hand: 0, cached: 1, cached_events: 8, workflow: SlotCount free: 2, reserved: 0, held: 0, activity: SlotCount free: 1, reserved: 0, held: 0
 
 Of two tasks no call fails.
 2 1 100 0 1 7 5 | 0 nap => nap
-end => poll, enter 3, answer 3 Complete([StartTimer id: nap, seconds: 60]), poll activities, poll, enter 8, answer 8 Complete([Complete result: []]), poll, None, Counts taken: 2, completed: 2, failed: 0, in_hand: 0, cached: 1, cached_events: 8, workflow: SlotCount free: 2, reserved: 0, held: 0, activity: SlotCount free: 1, reserved: 0, held: 0
+end => poll, answer 3 Complete([StartTimer id: nap, seconds: 60]), poll activities, poll, answer 8 Complete([Complete result: []]), poll, None, Counts taken: 2, completed: 2, failed: 0, in_hand: 0, cached: 1, cached_events: 8, workflow: SlotCount free: 2, reserved: 0, held: 0, activity: SlotCount free: 1, reserved: 0, held: 0
 
 Of two tasks the question for the whole history fails, without a cache.
 2 1 0 0 1 5 5 | 0 nap => nap
-end => poll, enter 3, answer 3 Complete([StartTimer id: nap, seconds: 60]), poll activities, poll, enter 8, poll, Some(Source), Counts taken: 2, completed: 1, failed: 1, in_hand: 0, cached: 0, cached_events: 0, workflow: SlotCount free: 2, reserved: 0, held: 0, activity: SlotCount free: 1, reserved: 0, held: 0
+end => poll, answer 3 Complete([StartTimer id: nap, seconds: 60]), poll activities, poll, poll, Some(Source), Counts taken: 2, completed: 1, failed: 1, in_hand: 0, cached: 0, cached_events: 0, workflow: SlotCount free: 2, reserved: 0, held: 0, activity: SlotCount free: 1, reserved: 0, held: 0
 
 The turns are over.
 2 1 100 0 1 0 3 | 0 nap => nap
-end => poll, enter 3, answer 3 Complete([StartTimer id: nap, seconds: 60]), poll activities, poll, enter 8, answer 8 Complete([Complete result: []]), None, Counts taken: 2, completed: 2, failed: 0, in_hand: 0, cached: 1, cached_events: 8, workflow: SlotCount free: 2, reserved: 0, held: 0, activity: SlotCount free: 1, reserved: 0, held: 0
+end => poll, answer 3 Complete([StartTimer id: nap, seconds: 60]), poll activities, poll, answer 8 Complete([Complete result: []]), None, Counts taken: 2, completed: 2, failed: 0, in_hand: 0, cached: 1, cached_events: 8, workflow: SlotCount free: 2, reserved: 0, held: 0, activity: SlotCount free: 1, reserved: 0, held: 0
 
 A poll that gives none comes before a poll that gives a task.
 2 1 100 0 1 0 10 | 0 nap => nap | nothing
-end => poll, poll activities, poll, enter 3, answer 3 Complete([StartTimer id: nap, seconds: 60]), poll, enter 8, answer 8 Complete([Complete result: []]), poll, None, Counts taken: 2, completed: 2, failed: 0, in_hand: 0, cached: 1, cached_events: 8, workflow: SlotCount free: 2, reserved: 0, held: 0, activity: SlotCount free: 1, reserved: 0, held: 0
+end => poll, poll activities, poll, answer 3 Complete([StartTimer id: nap, seconds: 60]), poll, answer 8 Complete([Complete result: []]), poll, None, Counts taken: 2, completed: 2, failed: 0, in_hand: 0, cached: 1, cached_events: 8, workflow: SlotCount free: 2, reserved: 0, held: 0, activity: SlotCount free: 1, reserved: 0, held: 0
 
 Polls that give none come before polls that give tasks, of either kind.
 2 1 100 0 1 0 10 | 0 nap => nap | nothing; nothing | nothing; 8
-end => poll, poll activities, poll, poll activities, run, answer 8 Completed([Payload encoding: [], content: [112]]), poll, enter 3, answer 3 Complete([StartTimer id: nap, seconds: 60]), poll activities, poll, enter 8, answer 8 Complete([Complete result: []]), poll, None, Counts taken: 3, completed: 3, failed: 0, in_hand: 0, cached: 1, cached_events: 8, workflow: SlotCount free: 2, reserved: 0, held: 0, activity: SlotCount free: 1, reserved: 0, held: 0
+end => poll, poll activities, poll, poll activities, run, answer 8 Completed([Payload encoding: [], content: [112]]), poll, answer 3 Complete([StartTimer id: nap, seconds: 60]), poll activities, poll, answer 8 Complete([Complete result: []]), poll, None, Counts taken: 3, completed: 3, failed: 0, in_hand: 0, cached: 1, cached_events: 8, workflow: SlotCount free: 2, reserved: 0, held: 0, activity: SlotCount free: 1, reserved: 0, held: 0
 
 Workflow tasks are closed first, and then activity tasks are.
 2 1 100 0 1 0 10 | 0 nap => nap | closed | nothing; 8; 9
@@ -62,15 +61,15 @@ end => poll, poll activities, poll activities, run, answer 8 Completed([Payload 
 
 Activity tasks are closed first, and then workflow tasks are.
 2 1 100 0 1 0 10 | 0 nap => nap | nothing; nothing | 8
-end => poll, poll activities, run, answer 8 Completed([Payload encoding: [], content: [112]]), poll, poll activities, poll, enter 3, answer 3 Complete([StartTimer id: nap, seconds: 60]), poll, enter 8, answer 8 Complete([Complete result: []]), poll, None, Counts taken: 3, completed: 3, failed: 0, in_hand: 0, cached: 1, cached_events: 8, workflow: SlotCount free: 2, reserved: 0, held: 0, activity: SlotCount free: 1, reserved: 0, held: 0
+end => poll, poll activities, run, answer 8 Completed([Payload encoding: [], content: [112]]), poll, poll activities, poll, answer 3 Complete([StartTimer id: nap, seconds: 60]), poll, answer 8 Complete([Complete result: []]), poll, None, Counts taken: 3, completed: 3, failed: 0, in_hand: 0, cached: 1, cached_events: 8, workflow: SlotCount free: 2, reserved: 0, held: 0, activity: SlotCount free: 1, reserved: 0, held: 0
 
 The host drains at its first task, and most turns are left.
-2 1 100 0 1 0 18446744073709551615 | 0 nap => nap | next | next | enter 3, drain
-end => poll, enter 3, answer 3 Complete([StartTimer id: nap, seconds: 60]), None, Counts taken: 1, completed: 1, failed: 0, in_hand: 0, cached: 1, cached_events: 3, workflow: SlotCount free: 2, reserved: 0, held: 0, activity: SlotCount free: 1, reserved: 0, held: 0
+2 1 100 0 1 0 18446744073709551615 | 0 nap => nap | next | next | answer 3, drain
+end => poll, answer 3 Complete([StartTimer id: nap, seconds: 60]), None, Counts taken: 1, completed: 1, failed: 0, in_hand: 0, cached: 1, cached_events: 3, workflow: SlotCount free: 2, reserved: 0, held: 0, activity: SlotCount free: 1, reserved: 0, held: 0
 
 The host drains at its second task, and most turns are left.
-2 1 100 0 1 0 18446744073709551615 | 0 nap => nap | next | next | enter 8, drain
-end => poll, enter 3, answer 3 Complete([StartTimer id: nap, seconds: 60]), poll activities, poll, enter 8, answer 8 Complete([Complete result: []]), None, Counts taken: 2, completed: 2, failed: 0, in_hand: 0, cached: 1, cached_events: 8, workflow: SlotCount free: 2, reserved: 0, held: 0, activity: SlotCount free: 1, reserved: 0, held: 0
+2 1 100 0 1 0 18446744073709551615 | 0 nap => nap | next | next | answer 8, drain
+end => poll, answer 3 Complete([StartTimer id: nap, seconds: 60]), poll activities, poll, answer 8 Complete([Complete result: []]), None, Counts taken: 2, completed: 2, failed: 0, in_hand: 0, cached: 1, cached_events: 8, workflow: SlotCount free: 2, reserved: 0, held: 0, activity: SlotCount free: 1, reserved: 0, held: 0
 
 No turn is given.
 2 1 0 0 1 0 0 | 0 nap => nap
@@ -157,16 +156,16 @@ fn no_activity_is_known(rt: HostRuntime) {
 
 /// Workers side by side: the sizes of their host, their turns, their results, which are the fewest
 /// and the most tasks and the cached events, and after `|` the scripts of their sources and what
-/// happens when tasks enter. Each task is completed.
+/// follows answers. Each task is completed.
 ///
-/// The first task of each run waits until that of the other has entered: two tasks are held and
-/// replayed at once. Then two tasks of run `a` are held: the run with six events comes back first,
-/// and the one with three does not replace it. Then the second task of the first worker's run
-/// drains the host, and most turns are left.
+/// The answer to the first task of each run waits for that of the other: two tasks are held at once.
+/// Then two tasks of run `a` are held: the run with six events comes back first, and the one with
+/// three does not replace it. Then the second task of the first worker's run drains the host, and
+/// most turns are left.
 const CREWS: &str = "\
-2 1 2 0 2 20 4 4 16 | 0 one => nap; 1 two => nap | enter 3, await enter 18446744073709551619; enter 18446744073709551619, await enter 3
-2 1 2 0 2 20 5 5 12 | 0 a => nap/3; 1 a => start:Nap S T task_timed_out S T, 2 b => start:Nap S T task_timed_out S T | enter 3, await enter 36893488147419103238; enter 18446744073709551619, await enter 3
-4 4 0 0 4 18446744073709551615 3 15 0 | 0 nap => nap, 1 then => nap; 2 nap => nap, 3 then => nap; 4 nap => nap, 5 then => nap; 6 nap => nap, 7 then => nap | enter 8, drain
+2 1 2 0 2 20 4 4 16 | 0 one => nap; 1 two => nap | answer 3, await answer 18446744073709551619; answer 18446744073709551619, await answer 3
+2 1 2 0 2 20 5 5 12 | 0 a => nap/3; 1 a => start:Nap S T task_timed_out S T, 2 b => start:Nap S T task_timed_out S T | answer 3, await answer 36893488147419103238; answer 18446744073709551619, await answer 3
+4 4 0 0 4 18446744073709551615 3 15 0 | 0 nap => nap, 1 then => nap; 2 nap => nap, 3 then => nap; 4 nap => nap, 5 then => nap; 6 nap => nap, 7 then => nap | answer 8, drain
 ";
 
 /// The sources of these scripts.
@@ -174,6 +173,25 @@ fn sources_of(rt: &impl Abort, alloc: Global, scripts: &'static str) -> Vec<Scri
     let mut sources = Vec::new(alloc);
     for table in scripts.split("; ") {
         push(&mut sources, script(rt, alloc, table)).expect(rt, "memory");
+    }
+    sources
+}
+
+/// The sources of these scripts, which note their calls.
+fn noted_sources<'b, 'r, 'h, R: Wait + Abort, T: Ledger, C: Ledger, F: Ledger>(
+    book: &'b Notebook<'r, 'h, R, T, C, F>,
+    scripts: &'static str,
+) -> Vec<NotedSource<'b, 'r, 'h, R, T, C, F>> {
+    let (rt, alloc) = (book.rt, book.alloc);
+    let mut sources = Vec::new(alloc);
+    for script in sources_of(rt, alloc, scripts) {
+        let source = NotedSource {
+            book,
+            script,
+            workflow_polls: "",
+            activity_polls: "",
+        };
+        push(&mut sources, source).expect(rt, "memory");
     }
     sources
 }
@@ -188,27 +206,35 @@ fn handlers_of(rt: &impl Abort, alloc: Global, count: usize) -> Vec<NoActivities
 }
 
 /// Runs a worker for each seat, over the script of its place.
-fn crew_of<R: Threads + Wait + Abort + Sync, T: Ledger + Send, C: Ledger + Send, F: Ledger + Send>(
-    book: &Notebook<'_, '_, R, T, C, F>,
+fn crew_of<
+    'b,
+    'r,
+    'h,
+    R: Threads + Wait + Abort + Sync,
+    T: Ledger + Send,
+    C: Ledger + Send,
+    F: Ledger + Send,
+>(
+    book: &'b Notebook<'r, 'h, R, T, C, F>,
     seats: Vec<Seat<T, C, F>>,
     scripts: &'static str,
     turns: u64,
-) -> Vec<Worker<T, C, F, ScriptSource>> {
+) -> Vec<Worker<T, C, F, NotedSource<'b, 'r, 'h, R, T, C, F>>> {
     let (rt, alloc) = (book.rt, book.alloc);
     let count = seats.len();
-    let sources = sources_of(rt, alloc, scripts);
+    let sources = noted_sources(book, scripts);
     let handlers = handlers_of(rt, alloc, count);
     let turns = vec![in alloc; turns; count].expect(rt, "memory");
     assert!(rt; sources.len() == count && handlers.len() == count);
-    let workers = run_workers(rt, alloc, book.host, seats, sources, handlers, book, turns);
+    let workers = run_workers(rt, alloc, book.host, seats, sources, handlers, turns);
     workers.expect(rt, "memory")
 }
 
 /// The seats of workers whose sources did not fail.
-fn seats_of<T: Ledger, C: Ledger, F: Ledger>(
+fn seats_of<T: Ledger, C: Ledger, F: Ledger, S: Drop>(
     rt: &impl Abort,
     alloc: Global,
-    workers: Vec<Worker<T, C, F, ScriptSource>>,
+    workers: Vec<Worker<T, C, F, S>>,
 ) -> Vec<Seat<T, C, F>> {
     let mut seats = Vec::new(alloc);
     for worker in workers {
@@ -220,7 +246,7 @@ fn seats_of<T: Ledger, C: Ledger, F: Ledger>(
 }
 
 /// Workers side by side: the sizes of their host, their turns, the scripts of their sources, and
-/// what happens when tasks enter.
+/// what follows answers.
 #[derive(Drop)]
 struct Crew {
     config: Config,
@@ -325,14 +351,15 @@ fn setups_of(
 
 /// Runs the setups of these scripts, and returns the seats.
 fn posted<R: Threads + Wait + Abort + Sync, T: Ledger + Send, C: Ledger + Send, F: Ledger + Send>(
-    book: &Notebook<'_, '_, R, T, C, F>,
+    rt: &R,
+    alloc: Global,
+    host: &Host<Workflows, T, C, F>,
     seats: Vec<Seat<T, C, F>>,
     scripts: &'static str,
 ) -> Vec<Seat<T, C, F>> {
-    let (rt, alloc) = (book.rt, book.alloc);
     let setups = setups_of(rt, alloc, scripts);
     assert!(rt; setups.len() == seats.len());
-    let ended = run_on_host(rt, alloc, book.host, seats, setups, book);
+    let ended = run_on_host(rt, alloc, host, seats, setups);
     let (seats, left) = ended.expect(rt, "memory");
     drop(left);
     seats
@@ -350,10 +377,8 @@ fn counts_of_both<
     requires failed { (failed.name ≡ F.name) × (failed.parts ≡ F.parts) × (failed.parts ≡ config.seats) }
 {
     let (host, seats) = open::<R, Workflows, T, C, F>(rt, alloc, config, taken, completed, failed);
-    let book = Notebook::new(rt, alloc, &host, "");
-    let seats = posted(&book, seats, "0 a => nap/3; 1 b => nap/3");
-    let mut seats = posted(&book, seats, "2 c => nap/3; 3 d => nap");
-    drop(book);
+    let seats = posted(rt, alloc, &host, seats, "0 a => nap/3; 1 b => nap/3");
+    let mut seats = posted(rt, alloc, &host, seats, "2 c => nap/3; 3 d => nap");
     let seat = seats.pop().expect(rt, "seat");
     close(rt, host, seats, seat)
 }
@@ -396,6 +421,40 @@ impl<R: Wait + Clock> Companion for Onlooker<'_, R> {
     }
 }
 
+/// The counts of a host on which two setups were run, with a companion at a third seat.
+fn counts_beside<
+    R: Threads + Wait + Clock + Abort + Sync,
+    T: Ledger + Send,
+    C: Ledger + Send,
+    F: Ledger + Send,
+>(
+    rt: &R,
+    alloc: Global,
+    config: Config,
+    companion: &Onlooker<'_, R>,
+    taken: Blank,
+    completed: Blank,
+    failed: Blank,
+) -> Counts
+    requires taken { (taken.name ≡ T.name) × (taken.parts ≡ T.parts) × (taken.parts ≡ config.seats) }
+    requires completed { (completed.name ≡ C.name) × (completed.parts ≡ C.parts) × (completed.parts ≡ config.seats) }
+    requires failed { (failed.name ≡ F.name) × (failed.parts ≡ F.parts) × (failed.parts ≡ config.seats) }
+{
+    let (host, mut seats) = open::<R, Workflows, T, C, F>(
+        rt, alloc, config, taken, completed, failed,
+    );
+    let spare = seats.pop();
+    let setups = setups_of(rt, alloc, "0 a => nap/3; 1 b => nap");
+    assert!(rt; setups.len() == seats.len());
+    let lent = &host;
+    let signal = &EndSignal::new();
+    let beside = move || accompany(rt, lent, spare, signal, companion);
+    let (spare, ended) = run_beside(rt, alloc, lent, seats, setups, signal, beside);
+    let (seats, left) = ended.expect(rt, "memory");
+    drop(left);
+    close(rt, host, seats, spare.expect(rt, "seat"))
+}
+
 /// A companion gets the counts of the workers at its seat, and counts nothing itself.
 #[test]
 fn a_companion_looks_on(rt: HostRuntime) {
@@ -404,32 +463,24 @@ fn a_companion_looks_on(rt: HostRuntime) {
         activity_slots: 1,
         cache: 10,
         cache_events: 0,
-        seats: 2,
+        seats: 3,
     };
+    let (taken, completed, failed) = (Blank::new(3), Blank::new(3), Blank::new(3));
     let alloc = rt.alloc();
-    let setups = setups_of(&rt, alloc, "0 a => nap/3; 1 b => nap");
     let companion = Onlooker {
         rt: &rt,
         seen: Mutex::new(None),
     };
-    let left = run_host_beside::<Workflows, _, _, _, _, _, _>(
-        &rt,
-        alloc,
-        config,
-        setups,
-        &OpenGate,
-        Some(&companion),
-    ).expect(&rt, "a host");
-    assert!(&rt; left.config == config && left.workers.len() == 2);
-    wants(
-        alloc,
-        left.totals,
-        "Totals taken: 3, completed: 3, failed: 0, in_hand: 0",
-    )
-    .expect(&rt, "the totals");
-    let seen = *companion.seen.lock(&rt);
+    let counts = counts_beside::<_, Brand, Brand, Brand>(
+        &rt, alloc, config, &companion, taken, completed, failed,
+    );
     let text =
-        "Some(Counts taken: 3, completed: 3, failed: 0, in_hand: 0, cached: 2, cached_events: 11, \
-        workflow: SlotCount free: 2, reserved: 0, held: 0, activity: SlotCount free: 1, reserved: 0, held: 0)";
-    wants(alloc, seen, text).expect(&rt, "what is seen beside them");
+        "Counts taken: 3, completed: 3, failed: 0, in_hand: 0, cached: 2, cached_events: 11, \
+        workflow: SlotCount free: 2, reserved: 0, held: 0, activity: SlotCount free: 1, reserved: 0, held: 0";
+    wants(alloc, counts, text).expect(&rt, "what is counted");
+    let seen = *companion.seen.lock(&rt);
+    wants(alloc, seen.expect(&rt, "what is seen beside them"), text).expect(
+        &rt,
+        "what is seen beside them",
+    );
 }

@@ -299,23 +299,21 @@ fn selected_text(
 /// A plan, as text.
 fn plan_text(rt: &impl Abort, alloc: Global, plan: &Plan) -> String {
     match plan {
-        Plan::Replay {
-            dir,
-            more,
-            format,
-            require_files,
-            strict_values,
-            progress,
-        } => {
+        Plan::Replay { dir, more, options } => {
             let mut text = command_text(rt, alloc, "replay ", dir, more);
-            add_flags(rt, &mut text, *format == Format::Json, *require_files);
-            let strict = if *strict_values {
+            add_flags(
+                rt,
+                &mut text,
+                options.format == Format::Json,
+                options.require_files,
+            );
+            let strict = if options.strict_values {
                 ", with strict values"
             } else {
                 ""
             };
             text.push_str(strict).expect(rt, "memory");
-            add_progress(rt, &mut text, *progress);
+            add_progress(rt, &mut text, options.progress);
             text
         }
         Plan::Explain {

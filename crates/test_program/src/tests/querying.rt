@@ -7,8 +7,8 @@ use wh_events::{Items, Payload, Text};
 use wh_query_report::{
     Format, Queried, query_command, query_file, query_of, status_of, write_queried,
 };
-use wh_queryable::{Query, QueryResult};
 use wh_sample_workflows::All;
+use wh_workflow::{Query, QueryResult};
 
 /// Histories, the query type, and the output, with `/` for each line feed.
 const QUERIES: &str = "\

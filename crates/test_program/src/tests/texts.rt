@@ -7,7 +7,7 @@ use wh_events::{EventNo, Items, PlaceFault};
 use wh_json::ReadFault;
 use wh_replay::{Checked, Fault};
 use wh_report::{Format, Record, status_of, write_report};
-use wh_verdict::{Line, Verdict};
+use wh_tester::{Line, Verdict};
 use wh_workflow::{Mismatch, WorkflowFault, text_of};
 
 /// The faults of place.
@@ -123,7 +123,6 @@ a: ok, 2 tasks: out of memory
 fn record_with(alloc: Global, line: Line) -> Record {
     Record {
         line,
-        cause: None,
         detail: None,
         difference: None,
         warnings: Items::new(Vec::new(alloc)),

@@ -2,9 +2,8 @@
 
 use std::alloc::Global;
 use std::process::Abort;
-use test_support::{same, wants};
+use test_support::{events, key, same, wants};
 use wh_events::{EventKind, Items, OutOfMemory, Payload};
-use wh_histories::{events, key};
 use wh_workflow::text_of;
 
 /// A start whose input is one payload.

@@ -3,8 +3,7 @@
 use std::alloc::Global;
 use std::process::Abort;
 use test_support::{bytes_of, row, same};
-use wh_tester::write_line;
-use wh_verdict::{Line, verdict};
+use wh_tester::{Line, verdict, write_line};
 use wh_workflow::{Workflow, text_of};
 
 /// The line of a file, `x.json`.

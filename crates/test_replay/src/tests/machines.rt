@@ -2,9 +2,8 @@
 
 use std::alloc::Global;
 use std::process::Abort;
-use test_support::{row, wants};
+use test_support::{events, events_after, row, wants};
 use wh_events::{Event, EventKind, EventNo, Items, OpenKind, Status, Text};
-use wh_histories::{events, events_after};
 use wh_machines::{PushFault, Track};
 use wh_workflow::text_of;
 

@@ -106,7 +106,7 @@ fn answered(
 
 /// The commands of a script that are sent.
 fn sent_text(rt: &impl Abort, alloc: Global, script: Script) -> String {
-    shown(alloc, &script.reduced().expect(rt, "memory")).expect(rt, "memory")
+    shown(alloc, &script.reduce().expect(rt, "memory")).expect(rt, "memory")
 }
 
 /// The answers of a script to words, and then the commands that are sent. The record of a task

@@ -2,14 +2,12 @@
 
 use std::alloc::Global;
 use std::process::Abort;
-use test_support::{cut, row, same, shown};
+use test_support::{cut, events_after, key, row, same, shown};
 use wh_events::{Items, Text};
-use wh_histories::{events_after, key};
 use wh_query::{query_each, query_history, query_run};
-use wh_queryable::{Query, QueryResult};
 use wh_replay::{Run, RunFault};
 use wh_sample_workflows::All;
-use wh_workflow::{Meter, text_of};
+use wh_workflow::{Meter, Query, QueryResult, text_of};
 
 /// Histories that end anywhere, the query type, and the answer.
 const HISTORIES: &str = "\

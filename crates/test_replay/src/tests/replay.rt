@@ -2,9 +2,8 @@
 
 use std::alloc::Global;
 use std::process::Abort;
-use test_support::{Still, row, same, shown};
+use test_support::{Still, events_after, key, row, same, shown};
 use wh_events::Event;
-use wh_histories::{events_after, key};
 use wh_replay::{Run, check};
 use wh_sample_workflows::All;
 use wh_workflow::{Meter, Workflow};

@@ -2,9 +2,8 @@
 
 use std::alloc::Global;
 use std::process::Abort;
-use test_support::{advance, row, run_text, same, shown};
+use test_support::{advance, events_after, key, row, run_text, same, shown};
 use wh_events::EventNo;
-use wh_histories::{events_after, key};
 use wh_replay::{Run, RunFault};
 use wh_sample_workflows::{All, Flood};
 use wh_workflow::{Meter, Workflow};

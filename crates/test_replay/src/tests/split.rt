@@ -2,9 +2,8 @@
 
 use std::alloc::Global;
 use std::process::Abort;
-use test_support::{cut, next_number, row, wants};
+use test_support::{cut, events_after, next_number, row, wants};
 use wh_events::EventNo;
-use wh_histories::events_after;
 use wh_split::{cuts, is_live, next_cut};
 
 /// A history, an event and another one: its tasks, the first of them after the one event, and

@@ -3,13 +3,13 @@
 use crate::tests::words::run_follows;
 use std::alloc::{AllocError, Global};
 use std::test::Fail;
+use wh_author_tools::ScenarioFault;
 use wh_events::Text;
 use wh_promise_check::{
-    Outcome, PromiseFinding, PromiseFindings, are_kept, check_promises, findings_json,
+    PhraseFinding, PromiseFinding, PromiseFindings, are_kept, check_promises, findings_json,
     findings_text,
 };
-use wh_scenarios::ScenarioFault;
-use wh_table_promises::{Verdict, WayStep};
+use wh_table_promises::{PromiseVerdict, WayStep};
 use wh_table_text::read_table;
 
 /// Both texts, which should be the same.
@@ -69,7 +69,7 @@ pub(super) fn keeps_promises(alloc: Global, table: &str) -> Result<(), Fail> {
 /// The path of a finding, if it has one.
 fn way_in(finding: &PromiseFinding) -> &[WayStep] {
     match &finding.outcome {
-        Outcome::Decided(Verdict::Broken(breach)) => breach.way.as_slice(),
+        PhraseFinding::Decided(PromiseVerdict::Broken(breach)) => breach.way.as_slice(),
         _ => &[],
     }
 }

@@ -2,7 +2,7 @@
 
 use crate::tests::words::run_follows;
 use std::test::Fail;
-use wh_scenarios::follows;
+use wh_author_tools::follows;
 use wh_table::TableWorkflow;
 
 /// A table with counters, conditions and marks.

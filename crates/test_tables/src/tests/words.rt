@@ -2,7 +2,7 @@
 
 use std::alloc::{AllocError, Global};
 use std::test::Fail;
-use wh_scenarios::follows;
+use wh_author_tools::follows;
 use wh_table::TableWorkflow;
 
 /// The text as one word: spaces, which only strings have, and semicolons are escaped in JSON.

@@ -1,4 +1,4 @@
-use Rattle.wh_program.proofs.Answering.{refused}
+use Rattle.wh_diagnostics.proofs.Answering.{refused}
 use Rattle.wfhost_replay.proofs.run_words.Goals as goal
 
 -- the answer has 2 if the words ask for no plan

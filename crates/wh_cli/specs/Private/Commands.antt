@@ -5,25 +5,26 @@ use Rattle.wh_command_line.specs.declared.command_line.Plan.{Plan}
 use Rattle.wh_command_line.specs.declared.command_line.Plan.TheVariants.{Replay, Explain, Page, View, Query, Check, Picture, Try, Serve, Work, Help}
 use Rattle.wh_command_line.specs.declared.work.WorkOptions.{WorkOptions}
 use Rattle.wh_console.specs.Consoles.{ConsoleView, IsQuiet, Reported}
-use Rattle.wh_diagnostics.specs.Failures.{input_failure}
-use Rattle.wh_diagnostics.specs.Printing.{HasPrinted}
+use Rattle.wh_console.specs.Inputs.{IsReadFrom}
+use Rattle.wh_diagnostics.specs.Failures.{IsWriteFailure, input_failure}
+use Rattle.wh_diagnostics.specs.Files.{HasCarriedOut, IsNotCarriedOut}
+use Rattle.wh_diagnostics.specs.Printing.{HasPrinted, IsRefused}
 use Rattle.wh_diagnostics.specs.declared.failures.Failure.{Failure}
-use Rattle.wh_diagnostics.specs.declared.failures.Failure.TheVariants.{BadLine, BadPolicies, Output}
-use Rattle.wh_diagnostics.specs.declared.failures.Failure.TheVariants.{OutOfMemory}
-use Rattle.wh_file_commands.specs.Explanations.{HasExplainedPath}
-use Rattle.wh_file_commands.specs.Pages.{HasPagedPath}
-use Rattle.wh_file_commands.specs.Queries.{HasQueriedPath}
-use Rattle.wh_file_commands.specs.Refusals.{IsRefused, IsUnqueriedPath, IsUnreportedPath, IsUnshownPath}
-use Rattle.wh_file_commands.specs.Views.{HasViewedPath}
-use Rattle.wh_promise_findings.specs.Finds.{Finds}
+use Rattle.wh_diagnostics.specs.declared.failures.Failure.TheVariants.{BadLine, BadPolicies, Output, OutOfMemory}
+use Rattle.wh_file_commands.specs.Explanations.{HasExplained}
+use Rattle.wh_file_commands.specs.Pages.{HasPaged}
+use Rattle.wh_file_commands.specs.Queries.{HasQueried, IsUnqueried}
+use Rattle.wh_file_commands.specs.Refusals.{IsUnshown}
+use Rattle.wh_file_commands.specs.Views.{HasViewed}
+use Rattle.wh_table_commands.specs.Finds.{Finds}
 use Rattle.wh_query_report.specs.Inputs.{query_of}
-use Rattle.wh_queryable.specs.Queries.{Queries}
+use Rattle.wh_workflow.specs.Queries.{Queries}
 use Rattle.wh_replay_command.specs.Replays.{HasNotReplayedPaths, HasReplayedPaths}
 use Rattle.wh_service_command.specs.Commands.{HasNotServedFolder, HasServedFolder}
 use Rattle.wh_table_commands.specs.Checks.{HasCheckedPaths, HasNotCheckedPaths}
-use Rattle.wh_table_commands.specs.Pictures.{HasDrawnPath}
-use Rattle.wh_table_commands.specs.Refusals.{IsUndrawnPath, IsUntriedPath}
-use Rattle.wh_table_commands.specs.Trials.{HasTriedPath}
+use Rattle.wh_table_commands.specs.Pictures.{HasDrawn}
+use Rattle.wh_table_commands.specs.Refusals.{IsUntried}
+use Rattle.wh_table_commands.specs.Trials.{HasTried}
 use Rattle.wh_work.specs.Plans.{IsLivePlan, LivesBy}
 use Rattle.wh_work.specs.Policies.{IsPlanFault}
 use Rattle.wh_work.specs.Reports.{live_as, live_status}
@@ -42,39 +43,30 @@ pub record HasWorked (lives : LivesBy) (options : WorkOptions) (old new : Consol
   pub reported : Reported old new (λ name. live_as plan.format end)
   pub ends : status ≡ live_status end
 
--- the plan is one of `replay`
-abbrev pub IsReplay : Plan → Type 0
-IsReplay (Replay dir more format required strict progress) = Unit {0}
-IsReplay _ = ⊥
-
--- the files that a plan of `replay` names were replayed
-abbrev pub HasReplayResult : {S : Type 0} → Program S → (types : List ℕ) → Plan → (old new : ConsoleView)
-    → (status : ℕ) → Type 0
-HasReplayResult program types (Replay dir more format required strict progress) old new status =
-    HasReplayedPaths program types dir more.items format required strict progress old new status
-HasReplayResult program types _ old new status = ⊥
-
 -- what a plan asks for was done
 abbrev pub Obeys : {S : Type 0} → Program S → Queries S → LivesBy → (types : List ℕ) → Plan → (old new : ConsoleView)
     → (status : ℕ) → Type 0
-Obeys program queries lives types (Replay dir more format required strict progress) old new status =
-    HasReplayedPaths program types dir more.items format required strict progress old new status
+Obeys program queries lives types (Replay dir more options) old new status =
+    HasReplayedPaths program types dir more.items options old new status
 Obeys program queries lives types (Explain file selection format) old new status =
-    HasExplainedPath program file selection format old new status
+    HasCarriedOut IsReadFrom (HasExplained program selection format) file old new status
 Obeys program queries lives types (Page file only_recorded) old new status =
-    HasPagedPath program only_recorded file old new status
+    HasCarriedOut IsReadFrom (HasPaged program only_recorded) file old new status
 Obeys program queries lives types (View file selection format) old new status =
-    HasViewedPath file selection format old new status
+    HasCarriedOut IsReadFrom (HasViewed selection format) file old new status
 Obeys program queries lives types (Query file query_type input format) old new status =
-    HasQueriedPath program queries types file query_type input.items format old new status
+    HasCarriedOut IsReadFrom (HasQueried program queries types (query_of query_type input.items) format) file
+    old new status
 Obeys program queries lives types (Check file more format) old new status =
-    HasCheckedPaths Finds file more.items format old new status
-Obeys program queries lives types (Picture file) old new status = HasDrawnPath Finds file old new status
-Obeys program queries lives types (Try file scenario) old new status = HasTriedPath file scenario old new status
+    HasCheckedPaths Finds format file more.items old new status
+Obeys program queries lives types (Picture file) old new status =
+    HasCarriedOut IsReadFrom (HasDrawn Finds) file old new status
+Obeys program queries lives types (Try file scenario) old new status =
+    HasCarriedOut IsReadFrom (HasTried IsReadFrom file scenario) file old new status
 Obeys program queries lives types (Serve dir options required progress) old new status =
     HasServedFolder program types dir (sizes_of options) required progress old new status
 Obeys program queries lives types (Work options) old new status = HasWorked lives options old new status
-Obeys program queries lives types (Help text) old new status = HasPrinted text old new status
+Obeys program queries lives types (Help text) old new status = HasPrinted text 0 old new status
 
 -- the failure if there is no plan to serve live tasks, by the fault
 abbrev pub plan_failure : PlanFault → Failure
@@ -89,41 +81,26 @@ pub record IsWorkFailure (options : WorkOptions) (failure : Failure) : Type 0 wh
   pub is : IsPlanFault options.metrics fault
   pub gives : failure ≡ plan_failure fault
 
--- the failures that a plan may end with; `IsUndone` says those of `replay`, `check` and `serve`
-abbrev pub MayFailWith : Plan → Failure → Type 0
-MayFailWith (Replay dir more format required strict progress) failure = Unit {0}
-MayFailWith (Explain file selection format) failure = IsUnreportedPath file failure
-MayFailWith (Page file only_recorded) failure = IsUnshownPath file failure
-MayFailWith (View file selection format) failure = IsUnshownPath file failure
-MayFailWith (Query file query_type input format) failure =
-    IsUnqueriedPath (query_of query_type input.items) file failure
-MayFailWith (Check file more format) failure = Unit {0}
-MayFailWith (Picture file) failure = IsUndrawnPath file failure
-MayFailWith (Try file scenario) failure = IsUntriedPath file scenario failure
-MayFailWith (Serve dir options required progress) failure = Unit {0}
-MayFailWith (Work options) failure = IsWorkFailure options failure
-MayFailWith (Help text) failure = failure ≡ Output
-
--- what a plan asks for failed. Live work left the console as it was; an explanation and the help reported nothing; a
--- page, a view, a query, a picture and a trial reported nothing, and wrote nothing unless the output failed; what
--- `replay`, `check` and `serve` left, their own definitions say
+-- what a plan asks for failed, and why: live work left the console as it was; an explanation and the help reported
+-- nothing; a page, a view, a query, a picture and a trial reported nothing, and wrote nothing unless the output failed;
+-- what `replay`, `check` and `serve` left, their own definitions say
 abbrev pub IsUndone : {S : Type 0} → Program S → Plan → (old new : ConsoleView) → Failure → Type 0
-IsUndone program (Replay dir more format required strict progress) old new failure =
-    HasNotReplayedPaths program dir more.items strict progress old new failure
-IsUndone program (Explain file selection format) old new failure = IsQuiet old new
-IsUndone program (Page file only_recorded) old new failure = IsRefused old new failure
-IsUndone program (View file selection format) old new failure = IsRefused old new failure
-IsUndone program (Query file query_type input format) old new failure = IsRefused old new failure
+IsUndone program (Replay dir more options) old new failure =
+    HasNotReplayedPaths program dir more.items options old new failure
+IsUndone program (Explain file selection format) old new failure =
+    IsQuiet old new × IsNotCarriedOut IsReadFrom (λ own. IsWriteFailure) file failure
+IsUndone program (Page file only_recorded) old new failure =
+    IsRefused old new failure × IsNotCarriedOut IsReadFrom IsUnshown file failure
+IsUndone program (View file selection format) old new failure =
+    IsRefused old new failure × IsNotCarriedOut IsReadFrom IsUnshown file failure
+IsUndone program (Query file query_type input format) old new failure =
+    IsRefused old new failure × IsUnqueried IsReadFrom (query_of query_type input.items) file failure
 IsUndone program (Check file more format) old new failure = HasNotCheckedPaths file more.items old new failure
-IsUndone program (Picture file) old new failure = IsRefused old new failure
-IsUndone program (Try file scenario) old new failure = IsRefused old new failure
+IsUndone program (Picture file) old new failure =
+    IsRefused old new failure × IsNotCarriedOut IsReadFrom (λ own. IsWriteFailure) file failure
+IsUndone program (Try file scenario) old new failure =
+    IsRefused old new failure × IsNotCarriedOut IsReadFrom (IsUntried IsReadFrom file scenario) file failure
 IsUndone program (Serve dir options required progress) old new failure =
     HasNotServedFolder program dir progress old new failure
-IsUndone program (Work options) old new failure = new ≡ old
-IsUndone program (Help text) old new failure = IsQuiet old new
-
--- what a plan asks for failed, with a failure that it may end with
-pub record IsStopped {S : Type 0} (program : Program S) (plan : Plan) (old new : ConsoleView)
-    (failure : Failure) : Type 0 where
-  pub undone : IsUndone program plan old new failure
-  pub why : MayFailWith plan failure
+IsUndone program (Work options) old new failure = (new ≡ old) × IsWorkFailure options failure
+IsUndone program (Help text) old new failure = IsQuiet old new × (failure ≡ Output)

@@ -5,9 +5,9 @@ use Rattle.wh_workflow.specs.Law.{Program}
 use Rattle.wh_workflow.specs.Scripts.{Settled}
 use Rattle.wh_workflow.specs.ActivationScripts.{settled_after, state_after}
 use Rattle.wh_replay.specs.Checks.{checked}
-use Rattle.wh_verdict.specs.declared.line.Verdict.{Verdict}
-use Rattle.wh_verdict.specs.declared.line.Verdict.TheVariants.{OutOfMemory}
-use Rattle.wh_verdict.specs.Verdicts.{judged}
+use Rattle.wh_tester.specs.declared.line.Verdict.{Verdict}
+use Rattle.wh_tester.specs.declared.line.Verdict.TheVariants.{OutOfMemory}
+use Rattle.wh_tester.specs.Verdicts.{judged}
 use Rattle.wh_explain.specs.declared.explanation.ExplainedTask.{ExplainedTask}
 use Rattle.wh_explain.specs.Explaining.{stops}
 

@@ -9,10 +9,10 @@ use Rattle.wh_replay.specs.declared.fault.Checked.{Checked}
 use Rattle.wh_replay.specs.declared.fault.Fault.{Fault}
 use Rattle.wh_replay.specs.Checks.{checked, ends_live}
 use Rattle.wh_replay.specs.Replays.{replay_after, replay_known, start, workflow_of}
-use Rattle.wh_verdict.specs.declared.line.Verdict.{Verdict}
-use Rattle.wh_verdict.specs.declared.line.Verdict.TheVariants.{Good, Faulty}
-use Rattle.wh_verdict.specs.Verdicts.{judged, verdict_on}
-use Rattle.wh_explain.specs.declared.explanation.Detail.{Detail}
+use Rattle.wh_tester.specs.declared.line.Verdict.{Verdict}
+use Rattle.wh_tester.specs.declared.line.Verdict.TheVariants.{Good, Faulty}
+use Rattle.wh_tester.specs.Verdicts.{judged, verdict_on}
+use Rattle.wh_explain.specs.declared.explanation.DetailLevel.{DetailLevel}
 use Rattle.wh_explain.specs.declared.explanation.ExplainedTask.{ExplainedTask}
 use Rattle.wh_explain.specs.declared.findings.Finding.{Finding}
 use Rattle.wh_explain.specs.Differences.{last_difference}
@@ -26,7 +26,7 @@ verdict_by (Some fault) checked = Faulty fault
 
 -- the findings have these tasks, kept as `detail` says, this workflow type, this verdict, and the difference that the
 -- tasks end in
-pub record AreFound (detail : Detail) (AreThose : List ExplainedTask → Type 0) (unknown : Option (List ℕ))
+pub record AreFound (detail : DetailLevel) (AreThose : List ExplainedTask → Type 0) (unknown : Option (List ℕ))
     (verdict : Verdict) (finding : Finding) (kept : List ExplainedTask) : Type 0 where
   pub tasks : List ExplainedTask
   pub explained : AreThose tasks
@@ -46,18 +46,18 @@ module _ {S : Type 0} where
       (λ _. Ok (record { tasks = length (cuts events); live = ends_live events }))
 
   -- the findings of events in place
-  abbrev pub AreFoundPlaced : Detail → Program S → Result (List Event) Fault → Finding → List ExplainedTask → Type 0
+  abbrev pub AreFoundPlaced : DetailLevel → Program S → Result (List Event) Fault → Finding → List ExplainedTask → Type 0
   AreFoundPlaced detail program placed =
       AreFound detail (AreTasksPlaced placed program) (unknown_placed program placed)
       (judged (checked_placed program placed))
 
   -- the findings of a history
-  abbrev pub AreFoundOf : Detail → Program S → List Event → Finding → List ExplainedTask → Type 0
+  abbrev pub AreFoundOf : DetailLevel → Program S → List Event → Finding → List ExplainedTask → Type 0
   AreFoundOf detail program events =
       AreFound detail (AreTasksOf program events) (unknown_of program events) (judged (checked program events))
 
   -- the findings of a file
-  abbrev pub AreFoundIn : Detail → Program S → List ℕ → Finding → List ExplainedTask → Type 0
+  abbrev pub AreFoundIn : DetailLevel → Program S → List ℕ → Finding → List ExplainedTask → Type 0
   AreFoundIn detail program bytes =
       AreFound detail (AreTasksIn program (history bytes)) (unknown_in program (history bytes))
       (verdict_on program bytes)

@@ -10,11 +10,11 @@ use Rattle.wh_workflow.specs.ActivationScripts.{Step, IsLongest, fault_in, issue
 use Rattle.wh_match.specs.declared.fault.ScriptFault.{ScriptFault}
 use Rattle.wh_match.specs.declared.fault.ScriptFault.TheVariants.{Workflow, OutOfMemory}
 use Rattle.wh_replay.specs.Activating.{StopsAfter}
-use Rattle.wh_explain.specs.declared.explanation.Detail.{Detail}
-use Rattle.wh_explain.specs.declared.explanation.Detail.TheVariants.{Verdict, Steps}
+use Rattle.wh_explain.specs.declared.explanation.DetailLevel.{DetailLevel}
+use Rattle.wh_explain.specs.declared.explanation.DetailLevel.TheVariants.{Verdict, Steps}
 
 -- what is kept is the whole, if steps are kept; else it can be anything
-abbrev pub Keeps : {A : Type 0} → Detail → A → A → Type 0
+abbrev pub Keeps : {A : Type 0} → DetailLevel → A → A → Type 0
 Keeps Verdict kept whole = Unit {0}
 Keeps Steps kept whole = kept ≡ whole
 
@@ -57,7 +57,7 @@ module _ {S : Type 0} where
     pub issued_are : fault ≡ None → issued ≡ issued_in context settled steps
 
   -- the steps of an activation are its longest script and leave this; they are kept as `detail` says
-  pub record Ran (detail : Detail) (program : Program S) (context : ActivationContext) (jobs : List Job) (state : S)
+  pub record Ran (detail : DetailLevel) (program : Program S) (context : ActivationContext) (jobs : List Job) (state : S)
       (settled : Settled) (kept : List Step) (fault : Option WorkflowFault) (left : S) (versions : Settled)
       (issued : List Command) : Type 0 where
     pub steps : List Step

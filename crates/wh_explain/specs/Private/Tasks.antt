@@ -14,26 +14,26 @@ use Rattle.wh_replay.specs.declared.fault.Fault.{Fault}
 use Rattle.wh_replay.specs.declared.fault.Fault.TheVariants.{Workflow as WorkflowFaulty, Mismatch as Mismatched}
 use Rattle.wh_replay.specs.Checks.{ends_live, replay_result}
 use Rattle.wh_replay.specs.Replays.{ReplayResult, replay_after}
-use Rattle.wh_explain.specs.declared.explanation.Detail.{Detail}
-use Rattle.wh_explain.specs.declared.explanation.Detail.TheVariants.{Verdict, Steps}
+use Rattle.wh_explain.specs.declared.explanation.DetailLevel.{DetailLevel}
+use Rattle.wh_explain.specs.declared.explanation.DetailLevel.TheVariants.{Verdict, Steps}
 use Rattle.wh_explain.specs.declared.explanation.Ending.{Ending}
 use Rattle.wh_explain.specs.declared.explanation.ExplainedTask.{ExplainedTask}
 use Rattle.wh_explain.specs.declared.explanation.Pairing.{Pairing}
-use Rattle.wh_explain.specs.declared.walk.Stop.{Stop}
-use Rattle.wh_explain.specs.declared.walk.TaskEnd.{TaskEnd}
-use Rattle.wh_explain.specs.declared.walk.Walk.{Walk}
+use Rattle.wh_explain.specs.declared.walk.StopReason.{StopReason}
+use Rattle.wh_explain.specs.declared.walk.TaskConclusion.{TaskConclusion}
+use Rattle.wh_explain.specs.declared.walk.ExplainedTasks.{ExplainedTasks}
 use Rattle.wh_explain.specs.Differences.{difference_at, last_difference}
 use Rattle.wh_explain.specs.Explaining.{sent_ending, unless_refused, IsTaskAt, AreTasks}
 use Rattle.wh_explain.specs.Private.Explaining.{LeavesTask}
 use Rattle.wh_explain.specs.Private.Stepping.{Keeps}
 
 -- the fault that stops the replay, if there is one
-abbrev pub fault_of : Option Stop → Option Fault
+abbrev pub fault_of : Option StopReason → Option Fault
 fault_of None = None
 fault_of (Some stop) = Some stop.fault
 
 -- the command and the event that differ, if that stops the replay
-abbrev pub difference_in : Option Stop → Option Pairing
+abbrev pub difference_in : Option StopReason → Option Pairing
 difference_in None = None
 difference_in (Some stop) = stop.difference
 
@@ -58,7 +58,7 @@ mismatch_with events sent None = None
 mismatch_with events sent (Some recorded) = mismatch events sent recorded
 
 -- nothing is shown of a recorded task, and others may follow it
-abbrev pub is_passed : Detail → Option Mismatch → Bool
+abbrev pub is_passed : DetailLevel → Option Mismatch → Bool
 is_passed Verdict difference = is_none difference
 is_passed Steps difference = false
 
@@ -68,8 +68,8 @@ explained_task at given steps ending = record { at = at; given = given; steps = 
 
 -- how the task at a cut ends that sends these commands and has the fault, if there is one: the ending is kept as
 -- `detail` says, and the stop has the fault and the difference, if no task follows
-pub record IsEnd (detail : Detail) (at : ℕ) (events : List Event) (sent : List Command) (fault : Option WorkflowFault)
-    (recorded : Option (List Event)) (end : TaskEnd) : Type 0 where
+pub record IsEnd (detail : DetailLevel) (at : ℕ) (events : List Event) (sent : List Command) (fault : Option WorkflowFault)
+    (recorded : Option (List Event)) (end : TaskConclusion) : Type 0 where
   pub keeps : Keeps detail end.ending (Some (unless_refused fault (sent_ending events sent recorded)))
   pub stops_by : fault_of end.stop ≡ fault_at at fault (mismatch_with events sent recorded)
   pub differs_in : difference_in end.stop ≡ difference_at (unless_refused fault (sent_ending events sent recorded))
@@ -83,9 +83,9 @@ task_fault events context settled at steps =
 module _ {S : Type 0} where
   -- what replay finds of a task: its explanation, kept as `detail` says, the fault and the difference if no task
   -- follows, and what it leaves
-  pub record IsTaskFinding (detail : Detail) (program : Program S) (events : List Event) (context : ActivationContext)
+  pub record IsTaskFinding (detail : DetailLevel) (program : Program S) (events : List Event) (context : ActivationContext)
       (told : List Job) (numbers : List ℕ) (at : ℕ) (state : S) (settled : Settled) (kept : Option ExplainedTask)
-      (stop : Option Stop) (left : S) (versions : Settled) : Type 0 where
+      (stop : Option StopReason) (left : S) (versions : Settled) : Type 0 where
     pub task : ExplainedTask
     pub explained : IsTaskAt program events context told numbers at state settled task
     pub keeps : Keeps detail kept (Some task)
@@ -94,9 +94,9 @@ module _ {S : Type 0} where
     pub leaves : LeavesTask program state settled task left versions
 
   -- what replay finds of a task, of which the explanation is added to those before it, if it is kept
-  pub record IsTaken (detail : Detail) (program : Program S) (events : List Event) (context : ActivationContext)
+  pub record IsTaken (detail : DetailLevel) (program : Program S) (events : List Event) (context : ActivationContext)
       (told : List Job) (numbers : List ℕ) (at : ℕ) (state : S) (settled : Settled) (before after : List ExplainedTask)
-      (stop : Option Stop) (left : S) (versions : Settled) : Type 0 where
+      (stop : Option StopReason) (left : S) (versions : Settled) : Type 0 where
     pub kept : Option ExplainedTask
     pub found : IsTaskFinding detail program events context told numbers at state settled kept stop left versions
     pub added : after ≡ before ++ option_to_list kept
@@ -109,8 +109,8 @@ module _ {S : Type 0} where
   -- what replay finds of the tasks of a history, from a state and settled versions on: their explanations, kept as
   -- `detail` says, the fault and the difference if not all of them were stepped, and else how many there are and
   -- whether the last is live
-  pub record IsWalk (detail : Detail) (program : Program S) (events : List Event) (state : S) (settled : Settled)
-      (walk : Walk) : Type 0 where
+  pub record IsWalk (detail : DetailLevel) (program : Program S) (events : List Event) (state : S) (settled : Settled)
+      (walk : ExplainedTasks) : Type 0 where
     pub tasks : List ExplainedTask
     pub explained : AreTasks program events 0 (cuts events) state settled tasks
     pub keeps : Keeps detail walk.tasks.items tasks

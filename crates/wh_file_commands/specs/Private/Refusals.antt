@@ -1,28 +1,19 @@
--- Why a step of a command of a file has no full report.
-use Rattle.std.specs.Prelude.{◌≡◌, ◌⊎◌, ℕ, List, IsSome, None, Option}
+-- Why a step of a command of a file shows nothing of it.
+use Rattle.std.specs.Prelude.{◌≡◌, ℕ, List, IsSome}
 use Rattle.wh_diagnostics.specs.declared.failures.Failure.{Failure}
-use Rattle.wh_diagnostics.specs.declared.failures.Failure.TheVariants.{BadInput, NotJson, NotViewed, Output}
+use Rattle.wh_diagnostics.specs.declared.failures.Failure.TheVariants.{NotJson, NotViewed, Output}
 use Rattle.wh_diagnostics.specs.declared.failures.Failure.TheVariants.{OutOfMemory}
-use Rattle.wh_file_faults.specs.Faults.{IsNoJson}
+use Rattle.wh_file_faults.specs.Details.{IsNoJson}
 use Rattle.wh_file_page.specs.declared.fault.PageFault.{PageFault}
 use Rattle.wh_file_page.specs.declared.fault.PageFault.TheVariants as pages
 use Rattle.wh_json.specs.Fields.{document}
 use Rattle.wh_json.specs.declared.fault.ReadFault.{ReadFault}
 use Rattle.wh_json.specs.declared.fault.ReadFault.TheVariants as reads
-use Rattle.wh_queryable.specs.declared.queryable.Query.{Query}
-
--- what came of a file can't be written, or there was no memory
-abbrev pub IsWriteFailure : Failure → Type 0
-IsWriteFailure failure = (failure ≡ Output) ⊎ (failure ≡ OutOfMemory)
-
--- why no query is asked: an argument is no JSON, or there was no memory to see that
-abbrev pub IsUnasked : Option Query → Failure → Type 0
-IsUnasked query failure = ((query ≡ None) × (failure ≡ BadInput)) ⊎ (failure ≡ OutOfMemory)
 
 -- why the events of a file whose fault is `BadJson` can't be shown: it is no JSON, and where that shows; or it is JSON,
 -- and the fault is kept; or there was no memory to tell
 abbrev pub IsUnviewedJson : (name bytes : List ℕ) → Failure → Type 0
-IsUnviewedJson name bytes (NotJson fault) = (fault.name ≡ name) × IsNoJson bytes fault.cause
+IsUnviewedJson name bytes (NotJson file detail) = (file ≡ name) × IsNoJson bytes detail
 IsUnviewedJson name bytes (NotViewed file fault) = (file ≡ name) × (fault ≡ reads.BadJson) × IsSome (document bytes)
 IsUnviewedJson name bytes OutOfMemory = Unit {0}
 IsUnviewedJson name bytes _ = ⊥

@@ -7,7 +7,7 @@ use Rattle.wh_client.specs.declared.codes.Receipt.{Receipt}
 use Rattle.wh_client.specs.declared.codes.Receipt.TheVariants.{NoMemory}
 use Rattle.wh_client.specs.declared.requests.Request.{Request}
 use Rattle.wh_commands.specs.declared.names.WorkerNames.{WorkerNames}
-use Rattle.wh_requests.specs.Requests.{activity_completed}
+use Rattle.wh_messages.specs.Requests.{activity_completed}
 use Rattle.wh_live.specs.declared.tasks.OpenTask.{OpenTask}
 use Rattle.wh_live.specs.Private.Receipts.{IsRequestReceipt}
 use Rattle.wh_tasks.specs.declared.source.ActivityAnswer.{ActivityAnswer}

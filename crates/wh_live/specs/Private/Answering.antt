@@ -13,16 +13,17 @@ use Rattle.wh_client.specs.declared.asking.AskFault.{AskFault}
 use Rattle.wh_client.specs.declared.asking.AskFault.TheVariants as asked
 use Rattle.wh_client.specs.declared.codes.Receipt.{Receipt}
 use Rattle.wh_client.specs.declared.codes.Receipt.TheVariants.{Lost, NoMemory, Replaced, Withheld}
-use Rattle.wh_client.specs.declared.codes.Status.{Status}
-use Rattle.wh_client.specs.declared.codes.Status.TheVariants as status
+use Rattle.wh_client.specs.declared.codes.StatusCode.{StatusCode}
+use Rattle.wh_client.specs.declared.codes.StatusCode.TheVariants as status
 use Rattle.wh_client.specs.declared.options.LiveOptions.{LiveOptions}
 use Rattle.wh_commands.specs.declared.fault.RequestFault.{RequestFault}
 use Rattle.wh_events.specs.declared.event.Event.{Event}
 use Rattle.wh_events.specs.declared.key.RunKey.{RunKey}
 use Rattle.wh_commands.specs.CarryingOver.{Carried, continues, nothing_carried}
 use Rattle.wh_commands.specs.declared.names.WorkerNames.{WorkerNames}
-use Rattle.wh_requests.specs.declared.request.FailedCause.{FailedCause}
-use Rattle.wh_requests.specs.Requests.{workflow_completed, workflow_failed}
+use Rattle.wh_messages.specs.declared.request.FailedCause.{FailedCause}
+use Rattle.wh_messages.specs.declared.request.FailedCause.TheVariants.{Unhandled}
+use Rattle.wh_messages.specs.Requests.{workflow_completed, workflow_failed}
 use Rattle.wh_replay.specs.declared.run.Answer.{Answer}
 use Rattle.wh_replay.specs.declared.run.Answer.TheVariants.{Complete, Fail}
 use Rattle.wh_slots.specs.declared.TaskName.{TaskName}
@@ -31,7 +32,7 @@ use Rattle.wh_tasks.specs.declared.source.RunUse.TheVariants.{Cache, Discard}
 use Rattle.wh_workflow.specs.declared.command.Command.{Command}
 use Rattle.wh_live.specs.declared.tallies.Tally.{Tally}
 use Rattle.wh_live.specs.declared.tasks.OpenTask.{OpenTask}
-use Rattle.wh_live.specs.Private.Counting.{settled}
+use Rattle.wh_live.specs.Private.Counting.{settled, with_failure}
 use Rattle.wh_live.specs.Private.Receipts.{IsReceiptOf, IsRefusedAsLarge}
 use Rattle.wh_tasks.specs.declared.source.SourceFault.{SourceFault}
 
@@ -57,12 +58,6 @@ CompletesWith gives fails options task commands events results carried receipt =
 abbrev pub GivesResults : Type 1
 GivesResults = List Event → Members → Members → Type 0
 
--- these are results of the queries of a task; without queries there are none
-abbrev pub HasResults : GivesResults → List Event → Members → Members → Type 0
-HasResults gives_results events no_members results = results ≡ no_members
-HasResults gives_results events (member id query queries) results =
-    gives_results events (member id query queries) results
-
 -- what became of a call with results of queries; or it was too large, and this became of the one without them
 abbrev pub IsReceiptOrSmaller : Gives → Fails → List ℕ → Data → (Receipt → Type 0) → Receipt → Type 0
 IsReceiptOrSmaller gives fails method params smaller receipt = IsReceiptOf gives fails method params receipt
@@ -80,16 +75,29 @@ IsCompletionOrSmaller gives fails (Err fault) smaller receipt = IsReplaced recei
 pub record HasAnsweredQueries (gives_results : GivesResults) (gives : Gives) (fails : Fails) (options : LiveOptions)
     (task : OpenTask) (commands : List Command) (events : List Event) (carried : Carried) (receipt : Receipt) : Type 0 where
   pub results : Members
-  pub has : HasResults gives_results events (members_view task.queries.entries) results
+  pub has : gives_results events (members_view task.queries.entries) results
   pub became : IsCompletionOrSmaller gives fails
       (workflow_completed options.names task.token commands events results options.sticky options.policies carried)
       (CompletesWith gives fails options task commands events no_members carried) receipt
 
 -- the same, unless there was no memory for the results
+abbrev pub CompletesQueried : GivesResults → Gives → Fails → LiveOptions → OpenTask → List Command → List Event
+    → Carried → Receipt → Type 0
+CompletesQueried gives_results gives fails options task commands events carried receipt =
+    HasAnsweredQueries gives_results gives fails options task commands events carried receipt ⊎ (receipt ≡ NoMemory)
+
+-- the first if there are no queries, and the second if there are some
+abbrev pub ByQueries : Members → Type 0 → Type 0 → Type 0
+ByQueries no_members alone queried = alone
+ByQueries (member id query queries) alone queried = queried
+
+-- what became of the completion of the task with these commands: with the results of its queries, if it has some
 abbrev pub CompletesAnswered : GivesResults → Gives → Fails → LiveOptions → OpenTask → List Command → List Event
     → Carried → Receipt → Type 0
 CompletesAnswered gives_results gives fails options task commands events carried receipt =
-    HasAnsweredQueries gives_results gives fails options task commands events carried receipt ⊎ (receipt ≡ NoMemory)
+    ByQueries (members_view task.queries.entries)
+    (CompletesWith gives fails options task commands events no_members carried receipt)
+    (CompletesQueried gives_results gives fails options task commands events carried receipt)
 
 -- what a run carries over if it is continued as a new one: what its first event says
 abbrev pub IsCarried : Gives → WorkerNames → RunKey → Bool → Carried → Type 0
@@ -117,6 +125,18 @@ pub record FailsTask (gives : Gives) (fails : Fails) (names : WorkerNames) (toke
   pub message : List ℕ
   pub became : IsReceiptOf gives fails (codes "RespondWorkflowTaskFailed") (workflow_failed names token cause message) receipt
 
+-- the task of a token was failed in this attempt: the failure was sent, or is withheld since the attempt is a later one
+pub record IsFailed (gives : Gives) (fails : Fails) (names : WorkerNames) (token : List ℕ) (attempt : ℕ)
+    (cause : FailedCause) : Type 0 where
+  pub receipt : Receipt
+  pub memory : receipt ≢ NoMemory
+  pub later : (receipt ≡ Withheld) ↔ (1 < attempt)
+  pub sent : receipt ≢ Withheld → FailsTask gives fails names token cause receipt
+
+-- the task was failed in place of its answer
+abbrev pub IsFailedInstead : Gives → Fails → WorkerNames → OpenTask → Type 0
+IsFailedInstead gives fails names task = (cause : FailedCause) × IsFailed gives fails names task.token task.attempt cause
+
 -- what became of this answer to the task
 abbrev pub HasAnswer : GivesResults → Gives → Fails → LiveOptions → OpenTask → Answer → List Event → Receipt → Type 0
 HasAnswer gives_results gives fails options task (Complete commands) events receipt =
@@ -129,11 +149,12 @@ abbrev pub IsKeptBack : OpenTask → Answer → Type 0
 IsKeptBack task (Complete commands) = ⊥
 IsKeptBack task (Fail fault) = 1 < task.attempt
 
--- this answer to the task is kept back, or else this became of it
+-- this answer to the task is kept back, or else this became of it; it is replaced only if the task was failed
 pub record IsAnswerReceipt (gives_results : GivesResults) (gives : Gives) (fails : Fails) (options : LiveOptions)
     (answer : Answer) (events : List Event) (task : OpenTask) (receipt : Receipt) : Type 0 where
   pub kept_back : receipt ≡ Withheld → IsKeptBack task answer
   pub sent : receipt ≢ Withheld → HasAnswer gives_results gives fails options task answer events receipt
+  pub replaced : receipt ≡ Replaced → IsFailedInstead gives fails options.names task
 
 -- the open task has this name, and this became of the answer to it
 pub record AnswersOpen (answers : OpenTask → Receipt → Type 0) (open_task : Option OpenTask) (name : TaskName)
@@ -147,10 +168,10 @@ pub record AnswersOpen (answers : OpenTask → Receipt → Type 0) (open_task : 
 abbrev pub IsNotOpen : Option OpenTask → TaskName → Type 0
 IsNotOpen open_task name = (task : OpenTask) → open_task ≡ Some task → task.name ≢ name
 
--- what became of the answer to the task of a name: an answer to no open task is lost, and there may be no memory
+-- what became of the answer to the task of a name: an answer to no open task is lost
 abbrev pub IsOpenReceipt : (OpenTask → Receipt → Type 0) → Option OpenTask → TaskName → Receipt → Type 0
-IsOpenReceipt answers open_task name receipt = AnswersOpen answers open_task name receipt
-    ⊎ (((receipt ≡ Lost) × IsNotOpen open_task name) ⊎ (receipt ≡ NoMemory))
+IsOpenReceipt answers open_task name receipt =
+    AnswersOpen answers open_task name receipt ⊎ ((receipt ≡ Lost) × IsNotOpen open_task name)
 
 -- what became of an answer decides whether it counts as taken, and what is counted
 pub record Settles (became : Receipt → Type 0) (sent : Result (Unit {0}) SourceFault) (old new : Tally) : Type 0 where
@@ -171,7 +192,7 @@ abbrev pub is_unhandled_command : List ℕ → Bool
 is_unhandled_command message = bytes_eq message (codes "UnhandledCommand")
 
 -- each refusal is reported, unless the task is over or its run had new events
-abbrev pub reports_refusal : Status → List ℕ → Bool
+abbrev pub reports_refusal : StatusCode → List ℕ → Bool
 reports_refusal status.Cancelled message = true
 reports_refusal status.InvalidArgument message = not (is_unhandled_command message)
 reports_refusal status.NotFound message = false
@@ -191,15 +212,21 @@ is_reported asked.OutOfMemory = false
 
 -- a history that could not be fetched is a fault of the source, unless the bridge has closed, or the open task was
 -- failed for malformed events
-abbrev pub counts_fault : Option OpenTask → AskFault → Bool
-counts_fault None fault = true
-counts_fault (Some task) asked.Closed = false
-counts_fault (Some task) asked.Output = true
-counts_fault (Some task) (asked.Refused status code message) = true
-counts_fault (Some task) asked.Unreadable = true
-counts_fault (Some task) asked.TooManyPages = true
-counts_fault (Some task) (asked.History fault) = false
-counts_fault (Some task) asked.OutOfMemory = true
+abbrev pub CountsFault : Gives → Fails → WorkerNames → Option OpenTask → AskFault → Bool → Type 0
+CountsFault gives fails names None fault counts = counts ≡ true
+CountsFault gives fails names (Some task) asked.Closed counts = counts ≡ false
+CountsFault gives fails names (Some task) asked.Output counts = counts ≡ true
+CountsFault gives fails names (Some task) (asked.Refused status code message) counts = counts ≡ true
+CountsFault gives fails names (Some task) asked.Unreadable counts = counts ≡ true
+CountsFault gives fails names (Some task) asked.TooManyPages counts = counts ≡ true
+CountsFault gives fails names (Some task) (asked.History fault) counts =
+    counts ≡ false → IsFailed gives fails names task.token task.attempt Unhandled
+CountsFault gives fails names (Some task) asked.OutOfMemory counts = counts ≡ true
+
+-- the tally after a history could not be fetched
+abbrev pub CountsUnread : Gives → Fails → WorkerNames → Option OpenTask → AskFault → Tally → Tally → Type 0
+CountsUnread gives fails names open_task fault old new =
+    (counts : Bool) × CountsFault gives fails names open_task fault counts × (new ≡ with_failure counts old)
 
 -- the run is cached if the server acknowledged the answer, and did not discard the task
 abbrev pub run_use : Receipt → RunUse

@@ -1,27 +1,33 @@
 -- Tasks that were opened, and are to be answered.
-use Rattle.std.specs.Prelude.{◌≡◌, ◌⊎◌, ⊤, codes, ℕ, Bool, List, [], Option, Some, None, option_map, Result, Ok, Err, IfOk, IsSomeAnd, if◌then◌else◌}
+use Rattle.std.specs.Prelude.{◌≡◌, ◌≢◌, ◌⊎◌, ⊤, codes, ℕ, Bool, true, List, [], Option, Some, None, option_map, Result, Ok, Err, IfOk, IsSomeAnd, if◌then◌else◌}
 use Rattle.serde_json.specs.Data.{Data}
 use Rattle.serde_json.specs.View.{members_view}
 use Rattle.wh_client.specs.Calls.{Fails, Gives}
 use Rattle.wh_client.specs.Histories.{CanNotBeRead, HasAllMembers}
 use Rattle.wh_client.specs.Pages.{ReadsNotOn}
 use Rattle.wh_client.specs.Polls.{IsActivityPoll, IsWorkflowPoll}
-use Rattle.wh_client.specs.Refusals.{IsFaultBy}
+use Rattle.wh_client.specs.Refusals.{HasItsStatus, IsFaultBy}
 use Rattle.wh_client.specs.declared.asking.AskFault.{AskFault}
 use Rattle.wh_client.specs.declared.asking.AskFault.TheVariants as asked
+use Rattle.wh_client.specs.declared.codes.PollEnd.TheVariants.{Closed}
+use Rattle.wh_client.specs.declared.options.TaskQueueKind.{TaskQueueKind}
+use Rattle.wh_client.specs.declared.options.TaskQueueKind.TheVariants.{Activities}
 use Rattle.wh_events.specs.declared.event.Event.{Event}
 use Rattle.wh_events.specs.declared.key.RunKey.{RunKey}
 use Rattle.wh_json.specs.declared.fault.ReadFault.{ReadFault}
 use Rattle.wh_live.specs.Deliveries.{HasKept, IsActivityOf, IsTaskOf, later_in}
+use Rattle.wh_live.specs.Private.Answering.{IsFailed}
+use Rattle.wh_live.specs.Private.Polls.{end_of}
 use Rattle.wh_live.specs.declared.tasks.Brought.{Brought}
 use Rattle.wh_live.specs.declared.tasks.Brought.TheVariants as brought
 use Rattle.wh_live.specs.declared.tasks.OpenTask.{OpenTask}
-use Rattle.wh_responses.specs.declared.response.PolledActivity.{PolledActivity}
+use Rattle.wh_messages.specs.declared.response.PolledActivity.{PolledActivity}
 use Rattle.wh_commands.specs.declared.names.WorkerNames.{WorkerNames}
-use Rattle.wh_responses.specs.declared.response.ActivityPoll.{ActivityPoll}
-use Rattle.wh_requests.specs.Requests.{poll_activity, poll_workflow}
-use Rattle.wh_responses.specs.Responses.{Task}
-use Rattle.wh_responses.specs.Responses as read
+use Rattle.wh_messages.specs.declared.response.ActivityPoll.{ActivityPoll}
+use Rattle.wh_messages.specs.Requests.{poll_activity, poll_workflow}
+use Rattle.wh_messages.specs.declared.request.FailedCause.TheVariants.{Unhandled}
+use Rattle.wh_messages.specs.Responses.{Task}
+use Rattle.wh_messages.specs.Responses as read
 use Rattle.wh_replay.specs.Runs.{follows}
 use Rattle.wh_slots.specs.declared.TaskName.{TaskName}
 use Rattle.wh_tasks.specs.declared.source.Polled.{Polled}
@@ -42,12 +48,14 @@ OnTask p (brought.Lost text) = Unit {0}
 abbrev pub AreMalformed : List Data → Type 0
 AreMalformed members = (fault : ReadFault) × CanNotBeRead members (asked.History fault)
 
--- what the members of a task's history may bring: it is settled only if they are malformed, and never an empty poll
-abbrev pub MayRead : {A : Type 0} → List Data → Brought A → Type 0
-MayRead members (brought.Task task) = ⊤
-MayRead members brought.Empty = ⊥
-MayRead members brought.Settled = AreMalformed members
-MayRead members (brought.Lost text) = ⊤
+-- what the members of a task's history may bring: it is settled only if they are malformed and the task was failed, and
+-- never an empty poll
+abbrev pub MayRead : {A : Type 0} → Gives → Fails → WorkerNames → OpenTask → List Data → Brought A → Type 0
+MayRead gives fails names task members (brought.Task given) = ⊤
+MayRead gives fails names task members brought.Empty = ⊥
+MayRead gives fails names task members brought.Settled =
+    AreMalformed members × IsFailed gives fails names task.token task.attempt Unhandled
+MayRead gives fails names task members (brought.Lost text) = ⊤
 
 -- the history of a task, with all its pages, is malformed
 pub record IsMalformed (gives : Gives) (names : WorkerNames) (polled : Task) : Type 0 where
@@ -55,27 +63,29 @@ pub record IsMalformed (gives : Gives) (names : WorkerNames) (polled : Task) : T
   pub all : HasAllMembers gives names polled.run polled.next_page polled.members members
   pub are : AreMalformed members
 
--- what a task that a poll returned may bring: it is settled only if its history is malformed, and never an empty poll
-abbrev pub MayOpen : {A : Type 0} → Gives → WorkerNames → Task → Brought A → Type 0
-MayOpen gives names polled (brought.Task task) = ⊤
-MayOpen gives names polled brought.Empty = ⊥
-MayOpen gives names polled brought.Settled = IsMalformed gives names polled
-MayOpen gives names polled (brought.Lost text) = ⊤
+-- what a task that a poll returned may bring: it is settled only if its history is malformed and it was failed, and
+-- never an empty poll
+abbrev pub MayOpen : {A : Type 0} → Gives → Fails → WorkerNames → Task → Brought A → Type 0
+MayOpen gives fails names polled (brought.Task task) = ⊤
+MayOpen gives fails names polled brought.Empty = ⊥
+MayOpen gives fails names polled brought.Settled =
+    IsMalformed gives names polled × IsFailed gives fails names polled.token polled.attempt Unhandled
+MayOpen gives fails names polled (brought.Lost text) = ⊤
 
 -- what a poll for workflow tasks may bring: without a task it is empty, a query is settled, and a result that can't be
 -- read brings nothing
-abbrev pub MayBring : {A : Type 0} → Gives → WorkerNames → read.Poll → Brought A → Type 0
-MayBring gives names read.nothing brings = brings ≡ brought.Empty
-MayBring gives names (read.task polled) brings = MayOpen gives names polled brings
-MayBring gives names (read.query token result) brings = brings ≡ brought.Settled
-MayBring gives names read.unreadable brings = ⊥
+abbrev pub MayBring : {A : Type 0} → Gives → Fails → WorkerNames → read.Poll → Brought A → Type 0
+MayBring gives fails names read.nothing brings = brings ≡ brought.Empty
+MayBring gives fails names (read.task polled) brings = MayOpen gives fails names polled brings
+MayBring gives fails names (read.query token result) brings = brings ≡ brought.Settled
+MayBring gives fails names read.unreadable brings = ⊥
 
 -- the poll of a queue got a result that may bring this
-pub record IsBrought {A : Type 0} (gives : Gives) (names : WorkerNames) (sticky : Bool)
+pub record IsBrought {A : Type 0} (gives : Gives) (fails : Fails) (names : WorkerNames) (sticky : Bool)
     (brings : Brought A) : Type 0 where
   pub poll : read.Poll
   pub given : IsWorkflowPoll gives names sticky poll
-  pub may : MayBring gives names poll brings
+  pub may : MayBring gives fails names poll brings
 
 -- a task is brought
 abbrev pub IsTask : {A : Type 0} → Brought A → Type 0
@@ -216,3 +226,22 @@ abbrev pub IsActivityFault : Gives → Fails → WorkerNames → AskFault → Ty
 IsActivityFault gives fails names fault =
     IsFaultBy (fails (codes "PollActivityTaskQueue") (poll_activity names)) fault
     ⊎ ((fault ≡ asked.Unreadable) × IsActivityPoll gives names ActivityPoll.Unreadable)
+
+-- ---- Closed sources
+
+-- a poll came to a fault after which there are no more tasks
+pub record IsClosedBy (came : AskFault → Type 0) : Type 0 where
+  pub fault : AskFault
+  pub is : came fault
+  pub status : HasItsStatus fault
+  pub ends : end_of fault ≡ Closed
+
+-- why a source is closed for workflow tasks: it was ended before, or polls no queue for them, or its poll was closed
+abbrev pub ClosesQueue : Gives → Fails → WorkerNames → Option Bool → Bool → Type 0
+ClosesQueue gives fails names queue ended = (ended ≡ true) ⊎ ((queue ≡ None)
+    ⊎ ((sticky : Bool) × (queue ≡ Some sticky) × IsClosedBy (IsWorkflowFault gives fails names sticky)))
+
+-- the same for activity tasks
+abbrev pub ClosesActivities : Gives → Fails → WorkerNames → TaskQueueKind → Bool → Type 0
+ClosesActivities gives fails names role ended =
+    (ended ≡ true) ⊎ ((role ≢ Activities) ⊎ IsClosedBy (IsActivityFault gives fails names))

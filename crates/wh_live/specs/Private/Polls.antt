@@ -1,5 +1,5 @@
 -- What a source reports for a poll.
-use Rattle.std.specs.Prelude.{◌≡◌, ℕ, ◌+◌, Result, Ok, Err, IsErr}
+use Rattle.std.specs.Prelude.{◌≡◌, ℕ, ◌+◌, Bool, true, Result, Ok, Err, IsErr}
 use Rattle.wh_client.specs.Calls.{Fails}
 use Rattle.wh_client.specs.Codes.{poll_end}
 use Rattle.wh_client.specs.Polls.{IsPollingOver}
@@ -65,3 +65,20 @@ polled_of (Lost text) = polled.Nothing
 abbrev pub Reports : {A : Type 0} → Result (Brought A) AskFault → Result (Polled A) SourceFault → Type 0
 Reports (Ok brought) result = result ≡ Ok (polled_of brought)
 Reports (Err fault) result = EndsPoll (end_of fault) result
+
+-- ---- The end of a source
+
+-- a source is ended by a poll after which no later one can succeed; any other leaves it as it was
+abbrev pub ended_by : PollEnd → Bool → Bool
+ended_by Closed ended = ended
+ended_by Later ended = ended
+ended_by Never ended = true
+
+-- the same by the result of a poll
+abbrev pub ended_after : {A : Type 0} → Result (Brought A) AskFault → Bool → Bool
+ended_after (Ok brought) ended = ended
+ended_after (Err fault) ended = ended_by (end_of fault) ended
+
+-- a source is ended only if a poll has shown that no later one can succeed
+abbrev pub IsOverIfEnded : Fails → Bool → Type 0
+IsOverIfEnded fails ended = ended ≡ true → IsPollingOver fails

@@ -8,11 +8,11 @@ use Rattle.wh_client.specs.Refusals.{IsFaultBy}
 use Rattle.wh_client.specs.declared.asking.AskFault.TheVariants as asked
 use Rattle.wh_client.specs.declared.codes.Receipt.{Receipt}
 use Rattle.wh_client.specs.declared.codes.Receipt.TheVariants as receipt
-use Rattle.wh_client.specs.declared.codes.Status.{Status}
-use Rattle.wh_client.specs.declared.codes.Status.TheVariants as status
+use Rattle.wh_client.specs.declared.codes.StatusCode.{StatusCode}
+use Rattle.wh_client.specs.declared.codes.StatusCode.TheVariants as status
 use Rattle.wh_client.specs.declared.requests.Request.{Request}
-use Rattle.wh_responses.specs.Completions.{is_discarded}
-use Rattle.wh_responses.specs.Refusals.{IsTooLarge}
+use Rattle.wh_messages.specs.Completions.{is_discarded}
+use Rattle.wh_messages.specs.Refusals.{IsTooLarge}
 
 -- a result was given, which says whether the task is discarded
 pub record IsAccepted (given : Data → Type 0) (discarded : Bool) : Type 0 where
@@ -21,7 +21,7 @@ pub record IsAccepted (given : Data → Type 0) (discarded : Bool) : Type 0 wher
   pub read : is_discarded result ≡ discarded
 
 -- the call was refused with a code of this status
-pub record IsRefused (failed : NoResult → Type 0) (of : Status) : Type 0 where
+pub record IsRefused (failed : NoResult → Type 0) (of : StatusCode) : Type 0 where
   pub code : ℤ
   pub message : List ℕ
   pub has : HasCode of code
@@ -37,7 +37,7 @@ pub record IsRefusedAsLarge (failed : NoResult → Type 0) : Type 0 where
 -- the request was not written, or the call was refused with a status after which the answer is lost
 abbrev pub IsLost : (NoResult → Type 0) → Type 0
 IsLost failed =
-    IsFaultBy failed asked.Output ⊎ ((of : Status) × (refused_answer of ≡ receipt.Lost) × IsRefused failed of)
+    IsFaultBy failed asked.Output ⊎ ((of : StatusCode) × (refused_answer of ≡ receipt.Lost) × IsRefused failed of)
 
 -- what became of a call is what it came to; one whose request is too large is replaced, and there may be no memory
 abbrev pub IsReceipt : (Data → Type 0) → (NoResult → Type 0) → Receipt → Type 0

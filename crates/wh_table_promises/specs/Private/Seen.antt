@@ -1,15 +1,15 @@
 -- What the program has of watches, rows and configurations is what the definitions speak of.
 use Rattle.std.specs.Prelude.{◌≡◌, ◌++◌, ℕ, Bool, true, false, ◌&&◌, cond, List, [], ◌∷◌, map, Option, Some, None, nat_eq}
 use Rattle.wh_rows.specs.declared.row.JobPattern.TheVariants as patterns
-use Rattle.wh_rows.specs.declared.row.Counts.{Counts}
+use Rattle.wh_rows.specs.declared.row.Counters.{Counters}
 use Rattle.wh_rows.specs.Tables.{JobPattern, CommandTemplate}
 use Rattle.wh_rows.specs.Rules.{covers}
-use Rattle.wh_promises.specs.Watches.{Turn, Standing, turned}
-use Rattle.wh_promises.specs.Deciding.{Line, Config, is_by, is_ready, stays, led, leads}
-use Rattle.wh_table_promises.specs.declared.watch.Turn.{Turn as TurnHeld}
-use Rattle.wh_table_promises.specs.declared.watch.Standing.{Standing as StandingHeld}
-use Rattle.wh_table_promises.specs.declared.lines.Line.{Line as LineHeld}
-use Rattle.wh_table_promises.specs.declared.config.Config.{Config as ConfigHeld}
+use Rattle.wh_rows.specs.Watches.{Turn, Standing, turned}
+use Rattle.wh_rows.specs.Deciding.{Line, Config, is_by, is_ready, stays, led, leads}
+use Rattle.wh_table_promises.specs.declared.watch.WatchTurn.{WatchTurn as TurnHeld}
+use Rattle.wh_table_promises.specs.declared.watch.WatchState.{WatchState as StandingHeld}
+use Rattle.wh_table_promises.specs.declared.lines.IndexedRow.{IndexedRow as LineHeld}
+use Rattle.wh_table_promises.specs.declared.config.Configuration.{Configuration as ConfigHeld}
 use Rattle.wh_table_promises.specs.Promised.{happening_of}
 
 -- a turn
@@ -56,7 +56,7 @@ config_seen one = record {
 }
 
 -- where a row leads, if there is one
-abbrev pub stand_by : Counts → List Turn → Option Line → Config → Standing → Config
+abbrev pub stand_by : Counters → List Turn → Option Line → Config → Standing → Config
 stand_by tops turns None one now = stays one now
 stand_by tops turns (Some row) one now = led tops turns row one now
 
@@ -68,6 +68,6 @@ started (row ∷ rest) one =
 
 -- what was found, and where a row and those behind it lead, is what is found, and where those behind it lead; so many
 -- patterns are passed before the row, and so many behind it
-abbrev pub LeadsOn : Counts → List Turn → Config → Line → List JobPattern → List JobPattern → List Config → List Config → Type 0
+abbrev pub LeadsOn : Counters → List Turn → Config → Line → List JobPattern → List JobPattern → List Config → List Config → Type 0
 LeadsOn tops turns one row passed left before behind =
     (rest : List Line) → behind ++ leads tops turns rest left one ≡ before ++ leads tops turns (row ∷ rest) passed one

@@ -5,8 +5,8 @@ use Rattle.wh_workflow.specs.declared.command.Command.{Command}
 use Rattle.wh_rows.specs.declared.row.RowsState.{RowsState}
 use Rattle.wh_rows.specs.Tables.{Definition}
 use Rattle.wh_rows.specs.Rows.{gives, seen_by, initial}
-use Rattle.wh_promises.specs.Courses.{comes, is_given, gave, course}
-use Rattle.wh_promises.specs.Watches.{Turn, Standing, new_standing, turned, watched}
+use Rattle.wh_rows.specs.Courses.{comes, is_given, gave, course}
+use Rattle.wh_rows.specs.Watches.{Turn, Standing, new_standing, turned, watched}
 
 -- once a job has come
 abbrev pub told_by : List Turn → RowsState → Job → Standing → Standing

@@ -5,7 +5,7 @@ use Rattle.wh_events.specs.declared.event.Payload.{Payload}
 use Rattle.wh_workflow.specs.declared.command.Command.TheVariants.{StartTimer, Complete}
 use Rattle.wh_workflow.specs.declared.job.Job.{Job}
 use Rattle.wh_workflow.specs.declared.job.Job.TheVariants as jobs
-use Rattle.wh_rows.specs.declared.row.Counts.{Counts}
+use Rattle.wh_rows.specs.declared.row.Counters.{Counters}
 use Rattle.wh_rows.specs.declared.row.RowsState.{RowsState}
 use Rattle.wh_rows.specs.Tables.{Row, seen}
 use Rattle.wh_rows.specs.Rows.{program, named, row_for, commands_of, after_effects, row_gives, after_found}
@@ -16,7 +16,7 @@ use Rattle.row_samples.specs.Alike.{given_until_closed}
 use Rattle.row_samples.proofs.nap.does_as_code.Goals as goal
 
 -- a run that is not closed
-abbrev asleep : List ℕ → List Payload → List Payload → Counts → RowsState
+abbrev asleep : List ℕ → List Payload → List Payload → Counters → RowsState
 asleep name input kept counts =
     record { at = codes "asleep"; closed = false; name = name; input = input; kept = kept; counts = counts }
 
@@ -26,7 +26,7 @@ either : (test : Bool) (one other : Option Row) (P : Bool → Option Row → Typ
 either true one other P first second = first
 either false one other P first second = second
 
-runs : (jobs : List Job) (name : List ℕ) (input kept : List Payload) (counts : Counts)
+runs : (jobs : List Job) (name : List ℕ) (input kept : List Payload) (counts : Counters)
     → given_until_closed (program (seen NAP)) (asleep name input kept counts) jobs
     ≡ given_until_closed nap (record {}) jobs
 unfolding row_for commands_of after_effects named

@@ -1,6 +1,6 @@
 use Rattle.wh_cli.proofs.Statuses.{documented}
 use Rattle.wh_cli.proofs.program.run_words.Goals as goal
-use Rattle.wh_program.proofs.Answering.{refused}
+use Rattle.wh_diagnostics.proofs.Answering.{refused}
 
 -- the answer has one of the documented statuses
 pub returns-in-Ok-clause-documented : goal.returns-in-Ok-clause-documented

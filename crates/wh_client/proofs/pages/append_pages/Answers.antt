@@ -3,7 +3,7 @@ use Rattle.std.proofs.lemmas.List.{length_push}
 use Rattle.serde_json.specs.Data.{Data}
 use Rattle.std.specs.Prelude.{List, ◌==◌}
 use Rattle.serde_json.specs.View.{view}
-use Rattle.wh_responses.specs.Responses.{page_seen}
+use Rattle.wh_messages.specs.Responses.{page_seen}
 use Rattle.wh_client.specs.Pages.{ReadsOn, all_members}
 use Rattle.wh_client.proofs.Paging.{leads_on, unread_after, unread_without_memory, reads_all, all_members-append, map-appended, none_left}
 use Rattle.wh_client.proofs.pages.append_pages.Goals as goal

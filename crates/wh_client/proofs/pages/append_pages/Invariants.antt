@@ -1,6 +1,6 @@
 use Rattle.std.proofs.Common.{◌≡◌, List, ◌++◌, length, map}
 use Rattle.serde_json.specs.View.{view}
-use Rattle.wh_responses.specs.Responses.{Page}
+use Rattle.wh_messages.specs.Responses.{Page}
 use Rattle.wh_client.specs.Pages.{Leads, all_members}
 use Rattle.wh_client.proofs.pages.append_pages.Given as goal
 

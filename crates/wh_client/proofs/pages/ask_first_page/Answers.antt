@@ -2,7 +2,7 @@ use Rattle.std.proofs.Common.{◌≡◌, ◌≢◌, ◌++◌, [], ◌∷◌, ap,
 use Rattle.std.specs.Prelude.{◌==◌, true}
 use Rattle.std.proofs.lemmas.List.{length_push}
 use Rattle.serde_json.specs.View.{view}
-use Rattle.wh_responses.specs.Responses.{page_seen}
+use Rattle.wh_messages.specs.Responses.{page_seen}
 use Rattle.wh_client.proofs.Paging.{leads_on, none_left, none_more}
 use Rattle.wh_client.proofs.pages.ask_first_page.Goals as goal
 

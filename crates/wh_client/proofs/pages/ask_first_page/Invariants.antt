@@ -1,5 +1,5 @@
 use Rattle.std.proofs.Common.{◌≡◌, List, [], length}
-use Rattle.wh_responses.specs.Responses.{Page}
+use Rattle.wh_messages.specs.Responses.{Page}
 use Rattle.wh_client.specs.Pages.{Leads, all_members}
 use Rattle.wh_client.proofs.pages.ask_first_page.Given as goal
 

@@ -34,7 +34,7 @@ returns-clause-asked c =
     let found = matched.1 ∙ ap (λ app. subcommand_of app (map string_bytes c.args.words.now)) c.in_ok-command.ensures in
     let read = read_by _ _ c.in_ok-command.ensures (c.in-Ok.ensures.kinds (ap is_simple_and_free c.in_ok-command.ensures ∙ program_is_free)) in
     let named = named_by _ _ _ _ read (c.in-Some.ensures.name ∙ first_made _ _ _) c.in-Some.ensures.rows found in
-    IfOk-weaker c.asked.result _ _ (λ plan given. inr (_, _, named, given)) c.asked.ensures.given
+    IfOk-weaker c.plan_of.result _ _ (λ plan given. inr (_, _, named, given)) c.plan_of.ensures.given
 
 pub returns-clause-few : goal.returns-clause-few
 returns-clause-few c = λ few.
@@ -42,17 +42,17 @@ returns-clause-few c = λ few.
     let found = matched.1 ∙ ap (λ app. subcommand_of app (map string_bytes c.args.words.now)) c.in_ok-command.ensures in
     let read = read_by _ _ c.in_ok-command.ensures (c.in-Ok.ensures.kinds (ap is_simple_and_free c.in_ok-command.ensures ∙ program_is_free)) in
     let named = named_by _ _ _ _ read (c.in-Some.ensures.name ∙ first_made _ _ _) c.in-Some.ensures.rows found in
-    (_, _, named, c.asked.ensures.few few)
+    (_, _, named, c.plan_of.ensures.few few)
 
 pub returns-in-Err-clause-asked : goal.returns-in-Err-clause-asked
 returns-in-Err-clause-asked c =
     let has = kinds_by _ _ c.in-Err.error c.in_ok-command.ensures (c.in-Err.ensures.kinds (ap is_simple_and_free c.in_ok-command.ensures ∙ program_is_free)) in
-    help_by _ _ has c.refused.result c.refused.ensures.help c.refused.ensures.asked
+    help_by _ _ has c.plan_or_refusal.result c.plan_or_refusal.ensures.help c.plan_or_refusal.ensures.asked
 
 pub returns-in-Err-clause-bad : goal.returns-in-Err-clause-bad
 returns-in-Err-clause-bad c =
     let has = kinds_by _ _ c.in-Err.error c.in_ok-command.ensures (c.in-Err.ensures.kinds (ap is_simple_and_free c.in_ok-command.ensures ∙ program_is_free)) in
-    IfErr-weaker c.refused.result _ _ (if_bad_then _ _ (λ mistake. inl (mistaken_by _ _ has mistake))) c.refused.ensures.bad
+    IfErr-weaker c.plan_or_refusal.result _ _ (if_bad_then _ _ (λ mistake. inl (mistaken_by _ _ has mistake))) c.plan_or_refusal.ensures.bad
 
 pub returns-in_default-clause-bad : goal.returns-in_default-clause-bad
 returns-in_default-clause-bad c =
@@ -67,4 +67,4 @@ returns-clause-bad c =
     let found = matched.1 ∙ ap (λ app. subcommand_of app (map string_bytes c.args.words.now)) c.in_ok-command.ensures in
     let read = read_by _ _ c.in_ok-command.ensures (c.in-Ok.ensures.kinds (ap is_simple_and_free c.in_ok-command.ensures ∙ program_is_free)) in
     let named = named_by _ _ _ _ read (c.in-Some.ensures.name ∙ first_made _ _ _) c.in-Some.ensures.rows found in
-    IfErr-weaker c.asked.result _ _ (if_bad_then _ _ (λ bad. inr (inr (_, _, named, bad)))) c.asked.ensures.bad
+    IfErr-weaker c.plan_of.result _ _ (if_bad_then _ _ (λ bad. inr (inr (_, _, named, bad)))) c.plan_of.ensures.bad

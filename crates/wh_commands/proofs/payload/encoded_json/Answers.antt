@@ -5,4 +5,4 @@ use Rattle.wh_commands.proofs.payload.encoded_json.Goals as goal
 
 pub returns : goal.returns
 returns c =
-    IfOk-weaker c.encoded.result _ _ (λ payload same. same ∙ ap₂ encoded c.as_bytes.ensures.value c.as_bytes-2.ensures.value) c.encoded.ensures
+    IfOk-weaker c.encode_payload.result _ _ (λ payload same. same ∙ ap₂ encoded c.as_bytes.ensures.value c.as_bytes-2.ensures.value) c.encode_payload.ensures

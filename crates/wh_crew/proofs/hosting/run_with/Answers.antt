@@ -1,10 +1,10 @@
 use Rattle.std.proofs.Common.{◌≡◌, ◌∙◌, ◌++◌, arith, List, length, map, replicate, rules, subst, sym, ap}
-use Rattle.wh_companion.specs.Spares.{spare_seats}
+use Rattle.wh_host.specs.Spares.{spare_seats}
 use Rattle.wh_host.specs.Machine.{totals_of}
 use Rattle.wh_ledger.specs.declared.Shares.{Shares}
 use Rattle.wh_ledger.specs.Shares.{no_shares}
 use Rattle.wh_poll.specs.Ends.{AreEnds, IsEndOf}
-use Rattle.wh_poll.proofs.Spares.{first_part, sums_back}
+use Rattle.wh_crew.proofs.Spares.{first_part, sums_back}
 use Rattle.wh_poll.proofs.Zips.{of_fresh}
 use Rattle.wh_crew.proofs.hosting.run_with.Goals as goal
 
@@ -24,8 +24,8 @@ returns-clause-end g c =
     let counted = map (λ end. end.counted) ends.items in
     let own : c.in_ok-seats.seats.items ≡ counted = search rules in
     let same =
-    sums_back seats.items spare (spare_seats c.run_answering-spare.result.0) c.in_ok-seats.seats.items c.put_spare.new.seats.items counted c.args.config.seats
-    parts (ap spare_seats c.run_answering-spare.ensures.spare) c.put_spare.ensures own in
+    sums_back seats.items spare (spare_seats c.run_beside-spare.result.0) c.in_ok-seats.seats.items c.put_spare.new.seats.items counted c.args.config.seats
+    parts (ap spare_seats c.run_beside-spare.ensures.beside) c.put_spare.ensures own in
     record {
       sizes = search rules;
       count = search rules;

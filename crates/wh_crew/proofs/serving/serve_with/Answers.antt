@@ -24,7 +24,7 @@ returns-clause-served g c =
       turns = c.in_ok-setups.ensures.turns ∙ ap (λ n. replicate n 18446744073709551615) many;
       ran = c.in_ok-end.ensures.end;
       totals = refl;
-      tally = c.gathered.ensures ∙ ap (λ left. tallies_of (map (λ worker. worker.source.tally) left)) c.as_slice.ensures.value;
+      tally = c.total_tally.ensures ∙ ap (λ left. tallies_of (map (λ worker. worker.source.tally) left)) c.as_slice.ensures.value;
     }
 
 -- a live source may go to another thread

@@ -8,5 +8,5 @@ returns-in-Ok g c = all_ok c.find_in_track.result (λ f found. placed_found g.W.
 
 pub returns-in-Err-Fault : goal.returns-in-Err-Fault
 returns-in-Err-Fault g c =
-    let own = rw c.in-Err-Fault.field-0-is at c.judged.ensures.finding in
-    misplaced_found g.W.Workflow.program c.args.detail c.args.events.items c.in-Err-Fault.fault c.judged.result.finding c.judged.result.tasks.items (rw c.in-Err-Fault.field-0-is at c.in-Err-Fault.ensures) c.judged.ensures.tasks (ap (λ (x : Finding). x.unknown) own) (ap (λ (x : Finding). x.verdict) own) (ap (λ (x : Finding). x.difference) own)
+    let own = rw c.in-Err-Fault.field-0-is at c.verdict_findings.ensures.finding in
+    misplaced_found g.W.Workflow.program c.args.detail c.args.events.items c.in-Err-Fault.fault c.verdict_findings.result.finding c.verdict_findings.result.tasks.items (rw c.in-Err-Fault.field-0-is at c.in-Err-Fault.ensures) c.verdict_findings.ensures.tasks (ap (λ (x : Finding). x.unknown) own) (ap (λ (x : Finding). x.verdict) own) (ap (λ (x : Finding). x.difference) own)

@@ -8,10 +8,10 @@ pub returns-in-Ok-clause-read : goal.returns-in-Ok-clause-read
 returns-in-Ok-clause-read g c = all_ok c.find_in_events.result (λ f found. history_read g.W.Workflow.program c.args.detail c.in-Ok.events.items f.finding f.tasks.items found) c.find_in_events.ensures
 
 pub returns-in-Err-clause-found : goal.returns-in-Err-clause-found
-returns-in-Err-clause-found g c bytes own = unread_given g.W.Workflow.program c.args.detail bytes c.in-Err.fault c.unread.result c.unread.ensures.finding c.unread.ensures.tasks c.unread.ensures.known (rw c.in-Err.is at own.exact)
+returns-in-Err-clause-found g c bytes own = unread_given g.W.Workflow.program c.args.detail bytes c.in-Err.fault c.unread_findings.result c.unread_findings.ensures.finding c.unread_findings.ensures.tasks c.unread_findings.ensures.known (rw c.in-Err.is at own.exact)
 
 pub returns-in-Err-clause-read : goal.returns-in-Err-clause-read
-returns-in-Err-clause-read g c = unread_known c.in-Err.fault c.unread.result c.unread.ensures.finding c.unread.ensures.known
+returns-in-Err-clause-read g c = unread_known c.in-Err.fault c.unread_findings.result c.unread_findings.ensures.finding c.unread_findings.ensures.known
 
 pub returns-in-Err-clause-memory : goal.returns-in-Err-clause-memory
-returns-in-Err-clause-memory g c bytes own = unread_within c.in-Err.fault bytes c.unread.result c.unread.ensures.memory (rw c.in-Err.is at own.memory)
+returns-in-Err-clause-memory g c bytes own = unread_within c.in-Err.fault bytes c.unread_findings.result c.unread_findings.ensures.memory (rw c.in-Err.is at own.memory)

@@ -25,5 +25,5 @@ returns g c =
     let state = ap (λ (u : ReplayResult _). u.state) began ∙ ap program.initial shown in
     let P : Settled → Type 0 = λ versions. IsWalk detail program track (program.initial (workflow_of track)) versions walk in
     let walks = subst P (ap (λ (u : ReplayResult _). u.settled) began) (subst (λ from. IsWalk detail program track from c.in_ok-first.first.versions walk) state c.in_ok-walk_tasks.ensures) in
-    let kept = c.walked.ensures in
-    walk_found program detail track walk c.walked.result.finding c.walked.result.tasks.items known walks (ap (λ l. l.items) kept.tasks) kept.unknown kept.verdict kept.difference
+    let kept = c.walk_findings.ensures in
+    walk_found program detail track walk c.walk_findings.result.finding c.walk_findings.result.tasks.items known walks (ap (λ l. l.items) kept.tasks) kept.unknown kept.verdict kept.difference

@@ -14,7 +14,7 @@ returns-then-index-sent c =
     let rest = commanded (drop (at.event-index + 1) c.args.events.now) in
     let here = commanded_next c.args.events.now at.event-index event c.loop-event-test.true c.event-item.is (sym c.is_commanded.ensures ∙ c.if-not-is_commanded.false) in
     let none : drop at.index c.args.sent.now ≡ [] = drop_all at.index c.args.sent.now (omega (arith, c.if-index-sent.true)) in
-    IfOk-weaker c.add.result _ _ (λ _ made. made_is c.alone.result _ at.paired.items c.add.new.paired.items c.alone.ensures made
+    IfOk-weaker c.add.result _ _ (λ _ made. made_is c.unpaired_event.result _ at.paired.items c.add.new.paired.items c.unpaired_event.ensures made
     ∙ (ap (λ left. at.paired.items ++ pairings history left (event ∷ rest)) (sym none)
     ∙ (ap (λ events. at.paired.items ++ pairings history (drop at.index c.args.sent.now) events) (sym here) ∙ at.invariant.1))) c.add.ensures
 

@@ -39,7 +39,7 @@ returns-in-Some-stop g c =
     let here = task_here program track at.last cut at.left.state at.left.versions f.task is f.explained in
     let fault = fault_here track at.last cut at.left.versions f.task taken.stop is f.stops_by in
     let some = c.in-Some-stop.is in
-    walk_stopped program lawful track c.args.left.state c.args.left.versions c.args.detail c.stopped.result c.in-Some-stop.stop at.tasks.items c.take_task.new.tasks.items t.kept at.last number at.left.state at.left.versions f.task c.stopped.ensures.tasks t.added (rw some at c.stopped.ensures.stop)
+    walk_stopped program lawful track c.args.left.state c.args.left.versions c.args.detail c.stop_walk.result c.in-Some-stop.stop at.tasks.items c.take_task.new.tasks.items t.kept at.last number at.left.state at.left.versions f.task c.stop_walk.ensures.tasks t.added (rw some at c.stop_walk.ensures.stop)
     at.invariant.tasks at.invariant.replay n is.first here f.keeps (sym (ap fault_of some) ∙ fault) (sym (ap difference_in some) ∙ f.differs_in)
 
 pub loop-cut-smaller : goal.loop-cut-smaller

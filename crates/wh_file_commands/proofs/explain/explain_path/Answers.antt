@@ -1,23 +1,16 @@
-use Rattle.wh_file_commands.proofs.Steps.{explained_path}
-use Rattle.wh_file_commands.proofs.Unreported.{path_unreported, unreported_fails}
+use Rattle.wh_diagnostics.proofs.CarriedOut.{carried_out, not_carried_out}
+use Rattle.wh_diagnostics.specs.Failures.{IsWriteFailure}
+use Rattle.wh_file_commands.specs.Explanations.{HasExplained}
 use Rattle.wh_file_commands.proofs.explain.explain_path.Goals as goal
 
--- the input is that of the path
+-- what is explained is the file at the path
 pub returns-clause-explained : goal.returns-clause-explained
 returns-clause-explained g c =
-    let input = c.in_ok-input in
-    explained_path g.W.Workflow.program c.args.path input.input c.args.selection c.args.format c.args.console.now c.explain_input.new.console
-    c.explain_input.result input.ensures.called input.ensures.from input.ensures.single c.explain_input.ensures.explained
+    carried_out g.R.InputReader.gives (HasExplained g.W.Workflow.program c.args.selection c.args.format) c.args.path (c.in_ok-name.name, c.in_ok-name.bytes)
+    c.args.console.now c.explain.new.console c.explain.result c.in_ok-name.ensures.read c.explain.ensures.explained
 
 -- or there is no full report of it
-pub returns-clause-unreported : goal.returns-clause-unreported
-returns-clause-unreported g c =
-    let input = c.in_ok-input in
-    path_unreported c.args.path input.input c.explain_input.result input.ensures.called input.ensures.from input.ensures.single c.explain_input.ensures.unreported
-
--- and then it can't be read or written
 pub returns-clause-why : goal.returns-clause-why
 returns-clause-why g c =
-    let input = c.in_ok-input in
-    unreported_fails c.args.path c.explain_input.result
-    (path_unreported c.args.path input.input c.explain_input.result input.ensures.called input.ensures.from input.ensures.single c.explain_input.ensures.unreported)
+    not_carried_out g.R.InputReader.gives (λ file. IsWriteFailure) c.args.path (c.in_ok-name.name, c.in_ok-name.bytes) c.explain.result
+    c.in_ok-name.ensures.read c.explain.ensures.why

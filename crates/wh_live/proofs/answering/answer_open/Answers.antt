@@ -11,5 +11,9 @@ returns g c =
       task = c.in-Some.task;
       is = c.in-Some.is;
       named = ap (λ n. record { 0 = n }) same;
-      answered = record { kept_back = c.respond-receipt.ensures.kept_back; sent = c.respond-receipt.ensures.received };
+      answered = record {
+        kept_back = c.respond-receipt.ensures.kept_back;
+        sent = c.respond-receipt.ensures.received;
+        replaced = c.respond-receipt.ensures.replaced;
+      };
     })

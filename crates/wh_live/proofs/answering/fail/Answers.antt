@@ -1,5 +1,5 @@
 use Rattle.std.specs.Prelude.{codes}
-use Rattle.wh_requests.specs.Requests.{workflow_failed}
+use Rattle.wh_messages.specs.Requests.{workflow_failed}
 use Rattle.wh_live.proofs.Receipts.{called_if_written}
 use Rattle.wh_live.proofs.answering.fail.Goals as goal
 
@@ -10,5 +10,5 @@ returns-clause-sent g c =
       message = c.args.message.now;
       became = called_if_written g.L.Connection.gives g.L.Connection.fails (codes "RespondWorkflowTaskFailed")
           (workflow_failed c.args.client.now.options.now.names c.args.task.now.token c.args.cause c.args.message.now)
-          c.failed-request.result c.send_written.result c.failed-request.ensures c.send_written.ensures.received;
+          c.failure_request-request.result c.send_written.result c.failure_request-request.ensures c.send_written.ensures.received;
     }

@@ -1,6 +1,6 @@
 use Rattle.std.proofs.Common.{◌≡◌, ◌++◌, drop, Ok}
 use Rattle.std.specs.Prelude.{map}
-use Rattle.wh_queryable.specs.declared.queryable.Query.{Query}
+use Rattle.wh_workflow.specs.declared.queryable.Query.{Query}
 use Rattle.wh_query.specs.Queries.{query_at}
 use Rattle.wh_query.proofs.querying.query_each.Given as goal
 

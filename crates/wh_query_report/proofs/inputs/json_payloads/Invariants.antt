@@ -1,5 +1,5 @@
 use Rattle.std.proofs.Common.{◌≡◌, map, take}
-use Rattle.wh_queryable.specs.Queries.{json_payload}
+use Rattle.wh_workflow.specs.Queries.{json_payload}
 use Rattle.wh_query_report.proofs.inputs.json_payloads.Given as goal
 
 -- the payloads of the words so far

@@ -28,7 +28,7 @@ returns-in_default-difference g c meter =
     let left = c.in_ok-replayed.ensures meter in
     matched_task cut.track.now (context_of cut) cut.number (progress_of c.args.activation meter) sent (sent_is cut script sent c.requires.script refl) events c.difference.result (ap told c.in-Some.is)
     (c.difference.ensures ∙ ap (λ l. mismatch cut.track.now l events) (c.as_slice.ensures.value ∙ ap (λ (u : ReplayResult _). u.unsent) left)) c.in_default-difference.is
-    ∙ ap Ok (ap (λ (u : ReplayResult _). record u { unsent = [] }) (sym left) ∙ sym (c.sent.ensures meter))
+    ∙ ap Ok (ap (λ (u : ReplayResult _). record u { unsent = [] }) (sym left) ∙ sym (c.send_unsent.ensures meter))
 
 pub returns : goal.returns
 returns g c meter =

@@ -1,10 +1,10 @@
 use Rattle.std.proofs.Common.{◌≡◌, ◌∙◌, ◌<◌, ◌≤◌, ◌+◌, [], suc, length, take, drop, ap, ap₂, rules, subst, sym, arith}
 use Rattle.wh_console.specs.Consoles.{Reported}
 use Rattle.wh_replay_command.specs.Batches.{faulty_of}
-use Rattle.wh_inputs.specs.Readings.{IsReadAs}
-use Rattle.wh_progress.proofs.Batched.{AreBatched, batch_left, batched_all, batched_more, batched_none, batched_stopped, batches_fit, stopped_if}
-use Rattle.wh_progress.specs.Batches.{batch_size, reports_after, reported_batches}
-use Rattle.wh_progress.specs.Lines.{line_text, progress_of}
+use Rattle.wh_diagnostics.specs.Readings.{IsReadAs}
+use Rattle.wh_diagnostics.proofs.Batched.{AreBatched, batch_left, batched_all, batched_more, batched_none, batched_stopped, batches_fit, stopped_if}
+use Rattle.wh_diagnostics.specs.Batches.{batch_size, reports_after, reported_batches}
+use Rattle.wh_diagnostics.specs.ProgressLines.{line_text, progress_of}
 use Rattle.wh_report.specs.Records.{AreRecordsOf}
 use Rattle.wh_replay_command.proofs.Batched.{adds_after, as_many, marks_after, no_records}
 use Rattle.wh_replay_command.proofs.batches.check_batches.Goals as goal

@@ -1,6 +1,6 @@
-use Rattle.wh_inputs.specs.Readings.{IsReadAs}
+use Rattle.wh_diagnostics.specs.Readings.{IsReadAs}
 use Rattle.wh_replay_command.specs.Batches.{faulty_of}
-use Rattle.wh_progress.proofs.Batched.{AreBatched}
+use Rattle.wh_diagnostics.proofs.Batched.{AreBatched}
 use Rattle.wh_report.specs.Records.{AreRecordsOf}
 use Rattle.wh_replay_command.proofs.batches.check_batches.Given as goal
 

@@ -1,6 +1,6 @@
 use Rattle.std.proofs.Common.{◌∙◌, ap}
-use Rattle.wh_inputs.specs.Readings.{IsReadAs}
-use Rattle.wh_progress.specs.Batches.{reported_batches}
+use Rattle.wh_diagnostics.specs.Readings.{IsReadAs}
+use Rattle.wh_diagnostics.specs.Batches.{reported_batches}
 use Rattle.wh_replay_command.proofs.Batched.{stopped_in_all, told_in_all}
 use Rattle.wh_replay_command.proofs.batches.check_in_batches.Goals as goal
 

@@ -5,7 +5,7 @@ use Rattle.wh_replay_command.proofs.replay.end_report.Goals as goal
 pub returns-clause-reported : goal.returns-clause-reported
 returns-clause-reported g c =
     report_ended c.args.records.items c.as_slice.result.now c.args.format c.args.lacks
-    c.args.console.now c.print_report-answer.new.console c.flushed.new.console c.report.new.self
+    c.args.console.now c.print_report-answer.new.console c.flush_answer.new.console c.report.new.self
     c.print_report-answer.result c.in_ok-status.status c.status_with.result c.as_slice.ensures.value
     c.print_report-answer.ensures.printed c.print_report-answer.ensures.status
     c.in_ok-status.ensures.quiet c.in_ok-status.ensures.kept c.in_ok-status.ensures.status c.report.ensures c.status_with.ensures.status

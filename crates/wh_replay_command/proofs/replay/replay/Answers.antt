@@ -1,14 +1,14 @@
 use Rattle.std.proofs.Common.{◌∙◌, ap, subst}
 use Rattle.std.specs.List.{list_any}
 use Rattle.wh_console.specs.Consoles.{Reported}
-use Rattle.wh_known_types.specs.Types.{known_types_text, lacks_code}
+use Rattle.wh_diagnostics.specs.KnownTypes.{known_types_text, lacks_code}
 use Rattle.wh_replay_command.proofs.Steps.{not_replayed, replayed_cut}
 use Rattle.wh_replay_command.proofs.replay.replay.Goals as goal
 
 -- progress was told, then the report is out, and last the types were told where a file lacks code
 pub returns-clause-replayed : goal.returns-clause-replayed
 returns-clause-replayed g c =
-    let same = c.lack_code-lacking.ensures ∙ ap (λ l. list_any (λ own. lacks_code own.cause) l) c.as_slice.ensures.value in
+    let same = c.lack_code-lacking.ensures ∙ ap (λ l. list_any (λ own. lacks_code own.detail) l) c.as_slice.ensures.value in
     record {
       records = c.in_ok-records.records.items;
       between = c.check_in_batches.new.console;
@@ -22,12 +22,12 @@ returns-clause-replayed g c =
 -- or the replay stopped
 pub returns-in_err-records-clause-stopped : goal.returns-in_err-records-clause-stopped
 returns-in_err-records-clause-stopped g c =
-    not_replayed g.R.InputReader.gives c.args.strict g.W.Workflow.program c.args.inputs.items c.args.mode c.args.console.now c.check_in_batches.new.console
+    not_replayed g.R.InputReader.gives c.args.options.strict_values g.W.Workflow.program c.args.inputs.items c.args.mode c.args.console.now c.check_in_batches.new.console
     c.in_err-records.field-0.0 c.from_residual.result c.in_err-records.ensures.stopped c.from_residual.ensures.1
 
 -- or the report can't be put out
 pub returns-in-Err-clause-stopped : goal.returns-in-Err-clause-stopped
 returns-in-Err-clause-stopped g c =
-    replayed_cut g.R.InputReader.gives c.args.strict g.W.Workflow.program c.args.inputs.items c.args.mode c.in_ok-records.records.items
+    replayed_cut g.R.InputReader.gives c.args.options.strict_values g.W.Workflow.program c.args.inputs.items c.args.mode c.in_ok-records.records.items
     c.args.console.now c.check_in_batches.new.console c.end_report.new.console c.in-Err.failure
     c.in_ok-records.ensures.found c.in_ok-records.ensures.told c.in-Err.ensures.cut

@@ -3,7 +3,7 @@ use Rattle.std.specs.List.{flat_map}
 use Rattle.std.specs.Io.KnownBytes.{Appends}
 use Rattle.std.proofs.KnownBytes.{Appends-trans}
 use Rattle.std.proofs.lemmas.Result.{on_ok_weaker}
-use Rattle.wh_values.specs.Texts.{value_object}
+use Rattle.wh_phrases.specs.Texts.{value_object}
 use Rattle.wh_report.specs.Reports.{object_after}
 use Rattle.wh_report.proofs.Lines.{warnings_written}
 use Rattle.wh_report.proofs.reports.write_some.Goals as goal

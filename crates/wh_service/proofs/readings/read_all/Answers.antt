@@ -1,6 +1,7 @@
 use Rattle.std.specs.Prelude.{Ok, Err}
 use Rattle.wh_service.specs.Readings.{IsReading}
-use Rattle.wh_file_faults.proofs.Collected.{all_err, all_ok, fault_in, of_files}
+use Rattle.wh_file_faults.proofs.Collected.{all_err, all_ok, fault_in}
+use Rattle.wh_service.proofs.Made.{of_files}
 use Rattle.wh_service.proofs.FilesRead.{are_read}
 use Rattle.wh_service.proofs.readings.read_all.Goals as goal
 

@@ -1,9 +1,9 @@
 use Rattle.std.proofs.Common.{◌≡◌, ◌∙◌, ◌<◌, ◌≤◌, ◌+◌, suc, length, take, drop, ap, subst, arith}
 use Rattle.wh_console.specs.Consoles.{Reported}
-use Rattle.wh_inputs.specs.Readings.{IsReadAs}
-use Rattle.wh_progress.proofs.Batched.{AreBatched, batch_left, batched_all, batched_more, batched_none, batched_stopped, batches_fit, stopped_if}
-use Rattle.wh_progress.specs.Batches.{batch_size, reports_after, reported_batches}
-use Rattle.wh_progress.specs.Lines.{line_text, progress_of}
+use Rattle.wh_diagnostics.specs.Readings.{IsReadAs}
+use Rattle.wh_diagnostics.proofs.Batched.{AreBatched, batch_left, batched_all, batched_more, batched_none, batched_stopped, batches_fit, stopped_if}
+use Rattle.wh_diagnostics.specs.Batches.{batch_size, reports_after, reported_batches}
+use Rattle.wh_diagnostics.specs.ProgressLines.{line_text, progress_of}
 use Rattle.wh_service.proofs.FilesRead.{marks_both, read_both, read_each, read_none}
 use Rattle.wh_service.specs.Readings.{HasRead}
 use Rattle.wh_service_command.specs.Commands.{faulty_in}

@@ -1,5 +1,5 @@
-use Rattle.wh_inputs.specs.Readings.{IsReadAs}
-use Rattle.wh_progress.proofs.Batched.{AreBatched}
+use Rattle.wh_diagnostics.specs.Readings.{IsReadAs}
+use Rattle.wh_diagnostics.proofs.Batched.{AreBatched}
 use Rattle.wh_service.specs.Readings.{HasRead}
 use Rattle.wh_service_command.specs.Commands.{faulty_in}
 use Rattle.wh_service_command.proofs.batches.read_batches.Given as goal

@@ -1,5 +1,5 @@
 use Rattle.wh_diagnostics.proofs.ReadFailures.{input_unread}
-use Rattle.wh_progress.proofs.Batched.{stopped_if}
+use Rattle.wh_diagnostics.proofs.Batched.{stopped_if}
 use Rattle.wh_service_command.proofs.Steps.{read_alone}
 use Rattle.wh_service_command.proofs.serve.read_and_serve.Goals as goal
 

@@ -1,7 +1,7 @@
 use Rattle.std.proofs.Common.{◌∙◌, ap}
 use Rattle.std.specs.Prelude.{Ok}
 use Rattle.wh_command_line.specs.Options.{sizes_of}
-use Rattle.wh_progress.specs.Batches.{reported_batches}
+use Rattle.wh_diagnostics.specs.Batches.{reported_batches}
 use Rattle.wh_service.specs.Services.{HostsBy}
 use Rattle.wh_service_command.proofs.Steps.{cut_off_if, not_served, served_all_if}
 use Rattle.wh_service_command.proofs.serve.serve.Goals as goal

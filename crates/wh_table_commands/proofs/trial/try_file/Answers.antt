@@ -1,30 +1,32 @@
-use Rattle.std.proofs.Common.{ap, refl}
-use Rattle.std.specs.Prelude.{Err, Ok}
-use Rattle.wh_table_commands.proofs.Refused.{fault_unwritten, fault_why, output_unwritten, output_why}
-use Rattle.wh_table_commands.proofs.Steps.{trial_ended}
+use Rattle.std.proofs.Common.{◌∙◌, ap}
+use Rattle.std.specs.Prelude.{Err, Ok, string_bytes}
+use Rattle.wh_diagnostics.proofs.Printed.{fault_flushed, fault_why, output_failed, output_why}
+use Rattle.wh_table_commands.proofs.Steps.{trial_printed}
 use Rattle.wh_table_commands.proofs.trial.try_file.Goals as goal
 
 -- what came of the trial is out
 pub returns-clause-tried : goal.returns-clause-tried
 returns-clause-tried g c =
     let own = c.in-Ok in
-    trial_ended c.args.file.now c.args.scenario.now c.args.console.now c.print_trial.new.console c.flushed-2.new.console own.own c.flushed-2.result (Ok c.status_of.result) c.status_of.result
-    own.ensures.tried own.ensures.printed c.flushed-2.ensures.quiet c.flushed-2.ensures.kept
-    c.status_of.ensures refl c.flushed-2.ensures.status
+    trial_printed (string_bytes c.args.name) c.args.bytes.items c.args.scenario.now c.as_str.result.now c.as_slice.result.now own.own
+    c.args.console.now c.print_trial.new.console c.flush_answer-2.new.console c.status_of.result c.flush_answer-2.result
+    c.as_str.ensures.value c.as_slice.ensures.value own.ensures.tried own.ensures.printed c.status_of.ensures
+    c.flush_answer-2.ensures.quiet c.flush_answer-2.ensures.kept c.flush_answer-2.ensures.status
 
 -- or it can't be put out
-pub returns-clause-unwritten : goal.returns-clause-unwritten
-returns-clause-unwritten g c =
-    output_unwritten c.args.console.now c.flushed-2.new.console c.flushed-2.result c.flushed-2.ensures.failure
+pub returns-clause-refused : goal.returns-clause-refused
+returns-clause-refused g c =
+    output_failed c.args.console.now c.print_trial.new.console c.flush_answer-2.new.console c.flush_answer-2.result
+    c.in-Ok.ensures.quiet c.flush_answer-2.ensures.quiet c.flush_answer-2.ensures.failure
 
 pub returns-clause-why : goal.returns-clause-why
-returns-clause-why g c = output_why c.flushed-2.result c.flushed-2.ensures.failure
+returns-clause-why g c = output_why c.flush_answer-2.result c.flush_answer-2.ensures.failure
 
 -- or nothing came of it
-pub returns-in-Err-clause-unwritten : goal.returns-in-Err-clause-unwritten
-returns-in-Err-clause-unwritten g c =
-    fault_unwritten c.args.console.now c.print_trial.new.console c.flushed.new.console c.in-Err.fault c.flushed.result
-    (λ is. c.in-Err.ensures.unwritten (ap Err is)) c.flushed.ensures.kept c.flushed.ensures.failure
+pub returns-in-Err-clause-refused : goal.returns-in-Err-clause-refused
+returns-in-Err-clause-refused g c =
+    fault_flushed c.args.console.now c.print_trial.new.console c.flush_answer.new.console c.in-Err.fault c.flush_answer.result
+    c.in-Err.ensures.quiet (λ is. c.in-Err.ensures.unwritten (ap Err is)) c.flush_answer.ensures.quiet c.flush_answer.ensures.kept c.flush_answer.ensures.failure
 
 pub returns-in-Err-clause-why : goal.returns-in-Err-clause-why
-returns-in-Err-clause-why g c = fault_why c.in-Err.fault c.flushed.result c.flushed.ensures.failure
+returns-in-Err-clause-why g c = fault_why c.in-Err.fault c.flush_answer.result c.flush_answer.ensures.failure

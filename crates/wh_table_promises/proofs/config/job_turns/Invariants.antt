@@ -1,6 +1,6 @@
 use Rattle.std.proofs.Common.{◌≡◌, ◌++◌, drop, map}
 use Rattle.std.specs.Prelude.{option_map}
-use Rattle.wh_promises.specs.Deciding.{job_turns}
+use Rattle.wh_rows.specs.Deciding.{job_turns}
 use Rattle.wh_table_promises.specs.Private.Seen.{turn_seen, standing_seen, line_seen, config_seen, stand_by}
 use Rattle.wh_table_promises.proofs.config.job_turns.Given as goal
 

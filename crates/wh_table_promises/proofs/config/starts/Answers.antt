@@ -8,5 +8,5 @@ returns c =
     rw (
       starts_is c.args.rules.now.tops (map turn_seen c.args.rules.now.turns.now) (config_seen c.args.one.now)
           (map line_seen c.args.rules.now.lines.now),
-      ← c.started-line.ensures,
+      ← c.start_row-line.ensures,
     ) c.job_turns.ensures

@@ -1,5 +1,5 @@
 use Rattle.std.proofs.Common.{◌≡◌, drop}
-use Rattle.wh_promises.specs.Deciding.{asks_within}
+use Rattle.wh_rows.specs.Deciding.{asks_within}
 use Rattle.wh_table_promises.proofs.counters.asks_within.Given as goal
 
 -- none so far asks for more

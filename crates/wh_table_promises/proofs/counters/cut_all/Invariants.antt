@@ -1,5 +1,5 @@
 use Rattle.std.proofs.Common.{◌≡◌, drop}
-use Rattle.wh_promises.specs.Deciding.{cut_all}
+use Rattle.wh_rows.specs.Deciding.{cut_all}
 use Rattle.wh_table_promises.proofs.counters.cut_all.Given as goal
 
 -- the rest leaves what all leave

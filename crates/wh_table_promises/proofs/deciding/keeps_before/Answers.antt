@@ -1,8 +1,8 @@
 use Rattle.std.proofs.Common.{◌-◌, ◌≤◌, suc, ℕ, List, map, subst, arith}
 use Rattle.wh_row_rules.specs.Broken.{definition}
-use Rattle.wh_promises.specs.Watches.{Turn}
-use Rattle.wh_promises.specs.Deciding.{case_of}
-use Rattle.wh_promises.specs.Promises.{watch_of}
+use Rattle.wh_rows.specs.Watches.{Turn}
+use Rattle.wh_rows.specs.Deciding.{case_of}
+use Rattle.wh_rows.specs.Promises.{watch_of}
 use Rattle.wh_table_promises.specs.Promised.{promise_of}
 use Rattle.wh_table_promises.specs.Private.Seen.{turn_seen}
 use Rattle.wh_table_promises.specs.Private.Found.{LeadsFrom}

@@ -1,7 +1,7 @@
 use Rattle.std.proofs.Common.{◌≡◌, true, List, map, subst}
 use Rattle.wh_row_rules.specs.Broken.{definition}
-use Rattle.wh_promises.specs.Watches.{Turn}
-use Rattle.wh_promises.specs.Deciding.{Config, case_of}
+use Rattle.wh_rows.specs.Watches.{Turn}
+use Rattle.wh_rows.specs.Deciding.{Config, case_of}
 use Rattle.wh_table_promises.specs.Promised.{promise_of}
 use Rattle.wh_table_promises.specs.Private.Seen.{config_seen}
 use Rattle.wh_table_promises.specs.Private.Found.{shows_all}

@@ -1,5 +1,5 @@
 use Rattle.std.proofs.Common.{◌≡◌, true, drop, map}
-use Rattle.wh_promises.specs.Deciding.{each}
+use Rattle.wh_rows.specs.Deciding.{each}
 use Rattle.wh_table_promises.specs.Private.Found.{is_in}
 use Rattle.wh_table_promises.specs.Private.Seen.{config_seen}
 use Rattle.wh_table_promises.proofs.found.are_known.Given as goal

@@ -1,5 +1,5 @@
 use Rattle.std.proofs.Common.{◌≡◌, ◌++◌, drop, map}
-use Rattle.wh_promises.specs.Deciding.{lines}
+use Rattle.wh_rows.specs.Deciding.{lines}
 use Rattle.wh_table_promises.specs.Private.Seen.{line_seen}
 use Rattle.wh_table_promises.proofs.lines.lines_of.Given as goal
 

@@ -1,5 +1,5 @@
 use Rattle.std.proofs.Common.{◌≡◌, ◌+◌, drop}
-use Rattle.wh_promises.specs.Deciding.{place}
+use Rattle.wh_rows.specs.Deciding.{place}
 use Rattle.wh_table_promises.proofs.lines.place.Given as goal
 
 -- no row passed so far is for the state

@@ -1,5 +1,5 @@
 use Rattle.std.proofs.Common.{◌≡◌, drop, map}
-use Rattle.wh_promises.specs.Deciding.{is_among}
+use Rattle.wh_rows.specs.Deciding.{is_among}
 use Rattle.wh_table_promises.proofs.patterns.is_among.Given as goal
 
 -- none of the patterns passed so far is for each of its jobs

@@ -1,7 +1,7 @@
 use Rattle.std.proofs.Common.{◌≡◌, true, List, map, take, drop, subst}
 use Rattle.std.specs.Prelude.{IfOk}
-use Rattle.wh_promises.specs.Deciding.{Config, each}
-use Rattle.wh_table_promises.specs.declared.config.Config.{Config as ConfigHeld}
+use Rattle.wh_rows.specs.Deciding.{Config, each}
+use Rattle.wh_table_promises.specs.declared.config.Configuration.{Configuration as ConfigHeld}
 use Rattle.wh_table_promises.specs.Private.Seen.{turn_seen, line_seen, config_seen}
 use Rattle.wh_table_promises.specs.Private.Found.{is_good}
 use Rattle.wh_table_promises.proofs.Fewer.{between}

@@ -1,6 +1,6 @@
 use Rattle.std.proofs.Common.{ap, ◌∙◌, map, drop, ◌+◌, arith}
-use Rattle.wh_promises.specs.Courses.{gave}
-use Rattle.wh_promises.specs.Watches.{watched}
+use Rattle.wh_rows.specs.Courses.{gave}
+use Rattle.wh_rows.specs.Watches.{watched}
 use Rattle.wh_table_promises.specs.Private.Seen.{turn_seen, standing_seen}
 use Rattle.wh_table_promises.proofs.Following.{given_on}
 use Rattle.wh_table_promises.proofs.ways.all_given.Goals as goal

@@ -1,8 +1,8 @@
 use Rattle.std.proofs.Common.{◌≡◌, ◌++◌, drop, map}
 use Rattle.wh_rows.specs.Rows.{initial}
 use Rattle.wh_row_rules.specs.Broken.{definition}
-use Rattle.wh_promises.specs.Watches.{new_standing, watched}
-use Rattle.wh_promises.specs.Courses.{course}
+use Rattle.wh_rows.specs.Watches.{new_standing, watched}
+use Rattle.wh_rows.specs.Courses.{course}
 use Rattle.wh_table_promises.specs.Ways.{texts_given, rows_taken}
 use Rattle.wh_table_promises.specs.Private.Seen.{turn_seen, standing_seen}
 use Rattle.wh_table_promises.proofs.ways.follow_jobs.Given as goal

@@ -1,6 +1,6 @@
 use Rattle.std.proofs.Common.{◌≡◌, drop, map}
-use Rattle.wh_promises.specs.Watches.{turn_for}
-use Rattle.wh_promises.specs.Courses.{is_given}
+use Rattle.wh_rows.specs.Watches.{turn_for}
+use Rattle.wh_rows.specs.Courses.{is_given}
 use Rattle.wh_table_promises.specs.Private.Seen.{turn_seen}
 use Rattle.wh_table_promises.proofs.ways.given_by.Given as goal
 

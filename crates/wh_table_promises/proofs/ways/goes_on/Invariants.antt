@@ -1,5 +1,5 @@
 use Rattle.std.proofs.Common.{◌≡◌, drop}
-use Rattle.wh_promises.specs.Courses.{goes_on}
+use Rattle.wh_rows.specs.Courses.{goes_on}
 use Rattle.wh_table_promises.proofs.ways.goes_on.Given as goal
 
 -- none so far starts the run

@@ -1,6 +1,6 @@
 use denote.Exit.{no}
 use denote.Param.Send.{param_sync, arg_sync}
-use Rattle.wh_keeping_calls.proofs.Crossing.{KeepingCalls-sync}
+use Rattle.wh_payload_metadata.proofs.Crossing.{KeepingCalls-sync}
 use Rattle.wh_work.proofs.workers.serve_calls.Goals as goal
 
 pub serve_over-end-requires-sync-C : goal.serve_over-end-requires-sync-C

@@ -1,7 +1,7 @@
 use Rattle.std.proofs.Common.{◌∙◌, ap}
 use Rattle.wh_client.proofs.Taking.{taken_by}
 use Rattle.wh_client.proofs.client.Client.refuse_query.Goals as goal
-use Rattle.wh_requests.specs.Requests.{no_queries, query_failed}
+use Rattle.wh_messages.specs.Requests.{no_queries, query_failed}
 
 -- the server took the call with the parameters that were written for it
 pub returns-in-Ok-clause-sent : goal.returns-in-Ok-clause-sent

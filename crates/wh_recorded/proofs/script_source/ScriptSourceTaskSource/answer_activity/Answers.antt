@@ -9,5 +9,5 @@ use Rattle.wh_recorded.proofs.script_source.ScriptSourceTaskSource.answer_activi
 pub returns-clause-origin : goal.returns-clause-origin
 returns-clause-origin c =
     let old : Stage = record { histories = c.self.inside.histories.items; round = c.self.inside.round; next = c.self.inside.next; answers = c.self.inside.answers } in
-    let came = comes_stored old c.store.new.self c.args.name (Activity c.in-Ok.copy) c.store.result c.store.ensures.sent c.store.ensures.unsent in
+    let came = comes_stored old c.store.new.self c.args.name (Activity c.args.answer) c.store.result c.store.ensures.sent c.store.ensures.unsent in
     subst (λ stage. KeepsOrigin ComesFrom stage (record old { answers = c.store.new.self })) c.self.view_is came

@@ -1,5 +1,0 @@
-//! A module for each file of `src/tests`.
-
-mod histories;
-mod scenarios;
-mod subscriptions;

@@ -1,3 +1,0 @@
-//! A module for each file of `src/tests`.
-
-mod viewing;

@@ -1,0 +1,4 @@
+pub mod Keeping
+mod Arrows
+mod Versions
+mod Answered

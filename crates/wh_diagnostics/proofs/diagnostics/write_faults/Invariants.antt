@@ -1,7 +1,0 @@
-use Rattle.std.specs.Io.KnownBytes.{Appends}
-use Rattle.wh_diagnostics.specs.Diagnostics.{fault_lines}
-use Rattle.wh_diagnostics.proofs.diagnostics.write_faults.Given as goal
-
--- the lines so far have been written
-abbrev pub invariant-loop-fault : goal.invariant-loop-fault
-invariant-loop-fault g l = Appends (g.E.Write.contents l.initial.writer) (g.E.Write.contents l.writer) (fault_lines l.yielded l.fn.name)

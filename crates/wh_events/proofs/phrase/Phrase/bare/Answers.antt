@@ -1,5 +1,0 @@
-use Rattle.std.proofs.Common.{rules}
-use Rattle.wh_events.proofs.phrase.Phrase.bare.Goals as goal
-
-pub returns : goal.returns
-returns c = search rules

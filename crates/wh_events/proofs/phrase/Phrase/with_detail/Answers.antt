@@ -1,0 +1,5 @@
+use Rattle.std.proofs.Common.{rules}
+use Rattle.wh_events.proofs.phrase.Phrase.with_detail.Goals as goal
+
+pub returns : goal.returns
+returns c = search rules

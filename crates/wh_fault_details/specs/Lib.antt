@@ -1,4 +1,0 @@
-pub mod Fields
-pub mod Places
-pub mod Details
-pub mod Texts

@@ -1,0 +1,48 @@
+-- The detail of a fault, as text and as JSON.
+use Rattle.std.specs.Prelude.{ℕ, List, [], ◌∷◌, ◌++◌, codes, decimal, Option, Some, None}
+use Rattle.wh_tester.specs.Json.{plain_member, text_member}
+use Rattle.wh_tester.specs.Report.{shown}
+use Rattle.wh_file_faults.specs.declared.detail.FaultDetail.{FaultDetail}
+use Rattle.wh_file_faults.specs.declared.detail.FaultDetail.TheVariants.{NotJson, NoCode, Lacks, Follows, Refers, Names}
+use Rattle.wh_file_faults.specs.declared.position.EncodingMark.{EncodingMark}
+use Rattle.wh_file_faults.specs.declared.position.EncodingMark.TheVariants.{ByteOrderMark, Utf16}
+
+-- what a file begins with, after its place
+abbrev pub mark_text : Option EncodingMark → List ℕ
+mark_text None = []
+mark_text (Some ByteOrderMark) = codes ": it begins with a byte order mark"
+mark_text (Some Utf16) = codes ": it is UTF-16, and has to be UTF-8"
+
+-- `event <place> `
+abbrev pub event_at : ℕ → List ℕ → List ℕ
+event_at at words = codes "event " ++ (decimal at ++ words)
+
+-- `not JSON at line <line> column <column>` and what it begins with, `no code for the workflow type <type>`,
+-- `event <place> lacks <field>`, `.. follows event <number>, which closes the run`, `.. refers to event <number>`, or
+-- `.. refers to the child <workflow id>`
+abbrev pub detail_text : FaultDetail → List ℕ
+detail_text (NotJson position mark) =
+    codes "not JSON at line " ++ (decimal position.line
+    ++ (codes " column " ++ (decimal position.column ++ mark_text mark)))
+detail_text (NoCode kind) = codes "no code for the workflow type " ++ shown kind
+detail_text (Lacks at field) = event_at at (codes " lacks " ++ shown field)
+detail_text (Follows at close) =
+    event_at at (codes " follows event " ++ (decimal close ++ codes ", which closes the run"))
+detail_text (Refers at number) = event_at at (codes " refers to event " ++ decimal number)
+detail_text (Names at workflow_id) = event_at at (codes " refers to the child " ++ shown workflow_id)
+
+-- the members of a detail: `"line"` and `"column"`, or `"workflowType"`, `"field"`, `"closedBy"`, `"refersTo"` or
+-- `"workflowId"`
+abbrev pub members_of : FaultDetail → List (List ℕ)
+members_of (NotJson position mark) =
+    plain_member (codes "line") (decimal position.line) ∷ plain_member (codes "column") (decimal position.column) ∷ []
+members_of (NoCode kind) = text_member (codes "workflowType") (shown kind) ∷ []
+members_of (Lacks at field) = text_member (codes "field") (shown field) ∷ []
+members_of (Follows at close) = plain_member (codes "closedBy") (decimal close) ∷ []
+members_of (Refers at number) = plain_member (codes "refersTo") (decimal number) ∷ []
+members_of (Names at workflow_id) = text_member (codes "workflowId") (shown workflow_id) ∷ []
+
+-- the members of a detail, if there is one
+abbrev pub detail_members : Option FaultDetail → List (List ℕ)
+detail_members None = []
+detail_members (Some detail) = members_of detail

@@ -1,0 +1,36 @@
+-- What is said of a file whose history was read.
+use Rattle.std.proofs.Common.{◌≡◌, ℕ, List, Result, Ok, Err}
+use Rattle.std.specs.Prelude.{◌≢◌, IfOk}
+use Rattle.wh_events.specs.declared.memory.OutOfMemory.{OutOfMemory}
+use Rattle.wh_explain.specs.Reading.{AreExplained}
+use Rattle.wh_explain.specs.declared.explanation.ExplainedTask.{ExplainedTask}
+use Rattle.wh_explain.specs.declared.findings.Finding.{Finding}
+use Rattle.wh_file_page.specs.Pages.{IsFindingIn, IsReplayed, recorded_said, said_in, status_of}
+use Rattle.wh_file_page.specs.declared.said.Judged.{Judged}
+use Rattle.wh_tester.specs.declared.line.Verdict.TheVariants as verdicts
+use Rattle.wh_workflow.specs.Law.{Program}
+
+module _ {S : Type 0} (program : Program S) (name bytes : List ℕ) (finding : Finding) (tasks : List ExplainedTask) where
+  finding_in : AreExplained program bytes finding tasks → finding.verdict ≢ verdicts.OutOfMemory → IsFindingIn program bytes finding
+  finding_in own known = record {
+    verdict = own.verdict;
+    known = known;
+    unknown = own.unknown;
+    difference = record { tasks = tasks; explained = own.explained; last = own.difference };
+  }
+
+  -- what its replay found is said of it
+  pub found_said : (judged : Result Judged OutOfMemory) → AreExplained program bytes finding tasks
+      → IfOk judged (λ own. own.said ≡ said_in name bytes finding) → IfOk judged (λ own. own.status ≡ status_of finding.verdict)
+      → IfOk judged (λ _. finding.verdict ≢ verdicts.OutOfMemory)
+      → IfOk judged (λ own. IsReplayed program name bytes own.said own.status)
+  found_said (Ok judged) own said ends known =
+      record { finding = finding; found = finding_in own known; is = said; ends = ends }
+  found_said (Err full) own said ends known = tt
+
+-- what is said of a file that is not replayed
+pub recorded_alone : (name : List ℕ) (judged : Result Judged OutOfMemory)
+    → IfOk judged (λ own. own.said ≡ recorded_said name) → IfOk judged (λ own. own.status ≡ 0)
+    → IfOk judged (λ own. (own.said ≡ recorded_said name) × (own.status ≡ 0))
+recorded_alone name (Ok judged) said ends = (said, ends)
+recorded_alone name (Err full) said ends = tt

@@ -1,4 +1,0 @@
-pub mod Cells
-pub mod Infos
-pub mod Pace
-pub mod Throttling

@@ -1,7 +1,0 @@
-use Rattle.wh_inputs.proofs.Unread.{unread_at}
-use Rattle.wh_inputs.proofs.listing.input_of.Goals as goal
-
--- nothing can be read there
-pub returns-in-Err-clause-refused : goal.returns-in-Err-clause-refused
-returns-in-Err-clause-refused g c =
-    unread_at c.args.path c.in-Err.fault c.unreadable.result c.unreadable.ensures.unreadable c.unreadable.ensures.memory

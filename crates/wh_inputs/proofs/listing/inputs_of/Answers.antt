@@ -1,8 +1,0 @@
-use Rattle.std.proofs.Common.{refl}
-use Rattle.wh_inputs.proofs.Unread.{unread_at}
-use Rattle.wh_inputs.proofs.listing.inputs_of.Goals as goal
-
--- nothing can be read there
-pub returns-in-Err-clause-refused : goal.returns-in-Err-clause-refused
-returns-in-Err-clause-refused g c =
-    (unread_at c.args.path c.in-Err.fault c.unreadable.result c.unreadable.ensures.unreadable c.unreadable.ensures.memory, refl)

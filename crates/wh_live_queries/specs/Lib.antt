@@ -1,0 +1,7 @@
+pub mod Answers
+pub mod Metadata
+pub mod Polled
+pub mod Results
+pub mod Laws
+pub mod DeskAnswers
+pub mod Waiting

@@ -1,5 +1,0 @@
-use Rattle.std.proofs.Common.{rules}
-use Rattle.wh_match.proofs.script.Script.reduced.Goals as goal
-
-pub returns : goal.returns
-returns c = search rules

@@ -1,0 +1,10 @@
+pub mod Requests
+pub mod Apart
+pub mod ServerReads
+pub mod Heartbeats
+pub mod Responses
+pub mod Served
+pub mod Refusals
+pub mod Completions
+pub mod CancelRequests
+pub mod Times

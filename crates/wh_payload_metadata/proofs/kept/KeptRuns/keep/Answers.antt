@@ -1,0 +1,28 @@
+use Rattle.std.proofs.Common.{string_bytes, bytes_eq, refl, sym, ap, ◌∙◌}
+use Rattle.std.specs.Map.{lookup}
+use Rattle.serde_json.specs.View.{view}
+use Rattle.wh_payload_metadata.specs.Payloads.{payloads_of}
+use Rattle.wh_payload_metadata.specs.Seen.{metadata_seen, header_seen, is_nothing, started_header, header_after}
+use Rattle.wh_payload_metadata.specs.Kept.{metadata_in, header_in, metadata_after, kept_metadata, kept_header}
+use Rattle.wh_payload_metadata.proofs.Lookups.{lookup-promoted, nothing_metadata}
+use Rattle.wh_payload_metadata.proofs.Nothing.{quiet_after, no_header}
+use Rattle.wh_payload_metadata.proofs.kept.KeptRuns.keep.Goals as goal
+
+pub returns-then-is_empty-clause-metadata : goal.returns-then-is_empty-clause-metadata
+returns-then-is_empty-clause-metadata c =
+    let name = c.args.name.now in
+    let runs = c.args.self.now.runs.entries in
+    let nothing = sym c.if-is_empty.ensures in
+    let none = sym c.requires.metadata ∙ nothing_metadata _ _ nothing in
+    ap (λ cache. metadata_in (lookup (λ k. bytes_eq name (string_bytes k)) cache.entries)) c.promote.ensures.entries
+    ∙ ap metadata_in (lookup-promoted (λ k. bytes_eq name (string_bytes k)) runs)
+    ∙ sym (quiet_after (view c.args.came.now) (kept_metadata c.args.self.now name) none)
+
+pub returns-then-is_empty-clause-header : goal.returns-then-is_empty-clause-header
+returns-then-is_empty-clause-header c =
+    let name = c.args.name.now in
+    let runs = c.args.self.now.runs.entries in
+    let nothing = ap (is_nothing (metadata_seen c.args.noted)) (sym c.requires.header) ∙ sym c.if-is_empty.ensures in
+    ap (λ cache. header_in (lookup (λ k. bytes_eq name (string_bytes k)) cache.entries)) c.promote.ensures.entries
+    ∙ ap header_in (lookup-promoted (λ k. bytes_eq name (string_bytes k)) runs)
+    ∙ sym (no_header (started_header (view c.args.came.now)) (kept_header c.args.self.now name) (metadata_seen c.args.noted) nothing)

@@ -1,0 +1,49 @@
+-- What is kept of runs.
+use Rattle.std.specs.Prelude.{ℕ, List, string_bytes, bytes_eq, nat_lt, Option, Some, None, option_map, if◌then◌else◌}
+use Rattle.std.specs.Map.{lookup}
+use Rattle.serde_json.specs.Data.{Data, Members, no_members}
+use Rattle.serde_json.specs.Events.{members_len}
+use Rattle.wh_payload_metadata.specs.declared.seen.SeenPayloads.{SeenPayloads}
+use Rattle.wh_payload_metadata.specs.Payloads.{payloads_of}
+use Rattle.wh_payload_metadata.specs.Seen.{all_noted, metadata_seen, header_seen}
+use Rattle.wh_payload_metadata.specs.Handed.{handed_on}
+use Rattle.wh_payload_metadata.specs.declared.kept.KeptRuns.{KeptRuns}
+use Rattle.wh_payload_metadata.specs.declared.open_tasks.OpenTasks.{OpenTasks}
+
+-- the most payloads of a run with which more are still noted
+abbrev pub most_payloads : ℕ
+most_payloads = 10000
+
+-- what was seen of the run of this name, if it is kept
+abbrev pub kept_run : KeptRuns → List ℕ → Option SeenPayloads
+kept_run kept name = lookup (λ key. bytes_eq name (string_bytes key)) kept.runs.entries
+
+abbrev pub metadata_in : Option SeenPayloads → Members
+metadata_in None = no_members
+metadata_in (Some seen) = metadata_seen seen
+
+abbrev pub header_in : Option SeenPayloads → Option Data
+header_in None = None
+header_in (Some seen) = header_seen seen
+
+-- the name under which it is kept what came with a task, by the token of the task, if it is open
+abbrev pub place_of : OpenTasks → List ℕ → Option (List ℕ)
+place_of tasks token =
+    option_map (λ place. string_bytes place) (lookup (λ key. bytes_eq token (string_bytes key)) tasks.tasks.entries)
+
+-- the metadata of payloads that were seen of a run
+abbrev pub kept_metadata : KeptRuns → List ℕ → Members
+kept_metadata kept name = metadata_in (kept_run kept name)
+
+-- the header of the start of a run, if it was seen
+abbrev pub kept_header : KeptRuns → List ℕ → Option Data
+kept_header kept name = header_in (kept_run kept name)
+
+-- the metadata of a run after something came, whose payloads are noted unless there are too many
+abbrev pub metadata_after : Data → Members → Members
+metadata_after came seen = if nat_lt (members_len seen) most_payloads then all_noted (payloads_of came) seen else seen
+
+-- a request with what was seen of its run, if that is kept
+abbrev pub handed_by : Option SeenPayloads → Data → Data
+handed_by None request = request
+handed_by (Some seen) request = handed_on (metadata_seen seen) (header_seen seen) request

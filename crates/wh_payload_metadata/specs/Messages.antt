@@ -1,0 +1,65 @@
+-- What calls of Temporal's WorkflowService say of runs and tasks.
+use Rattle.std.specs.Prelude.{ℕ, ◌-◌, List, [], ◌∷◌, length, slice_get, Bool, ◌||◌, bytes_eq, codes, Option, Some, nat_eq, option_and_then, if◌then◌else◌}
+use Rattle.std.specs.List.{starts_with}
+use Rattle.serde_json.specs.Data.{Data}
+use Rattle.wh_json.specs.Fields.{field, at_path, text_of, list_in}
+
+-- the token of the task that the result of a poll has, or the params of a call name; empty if there is none
+abbrev pub token_of : Data → List ℕ
+token_of d = text_of (field (codes "taskToken") (Some d))
+
+-- whether polls of this method bring activity tasks
+abbrev pub polls_activities : List ℕ → Bool
+polls_activities method = bytes_eq method (codes "PollActivityTaskQueue")
+
+-- the name under which what a poll brought is kept: the id of the run, and of an activity task its token
+abbrev pub polled_place : List ℕ → Data → List ℕ
+polled_place method result = if polls_activities method then token_of result
+    else text_of (at_path (codes "workflowExecution" ∷ codes "runId" ∷ []) (Some result))
+
+-- the id of the run whose history a call asks for
+abbrev pub fetched_run : Data → List ℕ
+fetched_run params = text_of (at_path (codes "execution" ∷ codes "runId" ∷ []) (Some params))
+
+-- whether a call of this method asks for a history
+abbrev pub fetches : List ℕ → Bool
+fetches method = bytes_eq method (codes "GetWorkflowExecutionHistory")
+
+-- whether a call of this method answers a task or a query
+abbrev pub responds : List ℕ → Bool
+responds method = starts_with nat_eq method (codes "Respond")
+
+-- whether a call of this method brings payloads of a task that goes on
+abbrev pub beats : List ℕ → Bool
+beats method = bytes_eq method (codes "RecordActivityTaskHeartbeat")
+
+-- whether a call of this method answers an activity task
+abbrev pub responds_to_activity : List ℕ → Bool
+responds_to_activity method =
+    bytes_eq method (codes "RespondActivityTaskCompleted") || bytes_eq method (codes "RespondActivityTaskFailed")
+    || bytes_eq method (codes "RespondActivityTaskCanceled")
+
+-- whether nothing more comes of what is kept for a call of this method: it answers an activity task, or fails a workflow
+-- task, whose run is then replayed from its first event
+abbrev pub ends_place : List ℕ → Bool
+ends_place method = responds_to_activity method || bytes_eq method (codes "RespondWorkflowTaskFailed")
+
+-- whether a command of this type closes its run
+unfoldable pub closes : List ℕ → Bool
+closes kind =
+    bytes_eq kind (codes "COMMAND_TYPE_COMPLETE_WORKFLOW_EXECUTION")
+    || bytes_eq kind (codes "COMMAND_TYPE_FAIL_WORKFLOW_EXECUTION")
+    || bytes_eq kind (codes "COMMAND_TYPE_CANCEL_WORKFLOW_EXECUTION")
+    || bytes_eq kind (codes "COMMAND_TYPE_CONTINUE_AS_NEW_WORKFLOW_EXECUTION")
+
+-- the last of a list, if there is one
+unfoldable pub last : List Data → Option Data
+last ds = slice_get ds (length ds - 1)
+
+-- the last command of a call, if it has any
+abbrev pub last_command : Data → Option Data
+last_command params = option_and_then last (option_and_then list_in (field (codes "commands") (Some params)))
+
+-- whether the last command of a call closes its run
+abbrev pub closes_run : Data → Bool
+closes_run params = closes (text_of (field (codes "commandType") (last_command params)))

@@ -1,0 +1,139 @@
+//! What is kept of runs.
+
+ghost use Rattle.std.specs.Prelude.{◌≡◌, IfOk, None, OnOk, bytes_eq, string_bytes};
+ghost use Rattle.std.specs.Map.{remove_entry};
+ghost use Rattle.serde_json.specs.Data.{no_members};
+ghost use Rattle.serde_json.specs.View.{view};
+ghost use Rattle.wh_payload_metadata.specs.Seen.{metadata_seen, header_seen, header_after, started_header};
+ghost use Rattle.wh_payload_metadata.specs.Kept.{kept_run, kept_metadata, kept_header, metadata_after, handed_by};
+
+use crate::seen::SeenPayloads;
+use lru::LruCache;
+use serde_json::Value;
+use std::alloc::{AllocError, Global};
+use std::num::NonZeroUsize;
+
+/// With how many payloads of a run more are still noted.
+const MOST_PAYLOADS: usize = 10_000;
+
+/// The name of a run, and what was seen of it.
+type KeptRun = (String, SeenPayloads);
+
+/// What was seen of runs. Those are kept that were used last.
+#[derive(Drop)]
+pub(crate) struct KeptRuns {
+    alloc: Global,
+    pub(crate) runs: LruCache<String, SeenPayloads>,
+}
+
+/// Notes something that came of a run.
+fn note(alloc: Global, seen: &mut SeenPayloads, came: &Value) -> Result<(), AllocError>
+    ensures metadata { OnOk result (metadata_seen seen.new
+        ≡ metadata_after (view came.now) (metadata_seen seen.old)) }
+    ensures header { OnOk result (header_seen seen.new
+        ≡ header_after (started_header (view came.now)) (header_seen seen.old)) }
+{
+    seen.keep_header(came)?;
+    if seen.len() < MOST_PAYLOADS {
+        seen.keep_payloads(alloc, came)?;
+    }
+    Ok(())
+}
+
+/// Notes something that came of a run, as if nothing had come of it before.
+pub(crate) fn note_first(alloc: Global, came: &Value) -> Result<SeenPayloads, AllocError>
+    ensures metadata { IfOk result (λ seen. metadata_seen seen ≡ metadata_after (view came.now) no_members) }
+    ensures header { IfOk result (λ seen. header_seen seen ≡ header_after (started_header (view came.now)) None) }
+{
+    let mut seen = SeenPayloads::new(alloc);
+    note(alloc, &mut seen, came)?;
+    Ok(seen)
+}
+
+impl KeptRuns {
+    /// Nothing is kept. There will be at most so many runs.
+    pub(crate) fn new(alloc: Global, most: NonZeroUsize) -> Result<KeptRuns, AllocError> {
+        Ok(KeptRuns {
+            alloc,
+            runs: LruCache::sparse(alloc, most)?,
+        })
+    }
+
+    /// Takes out what was seen of a run.
+    fn take(&mut self, name: &str) -> SeenPayloads
+        ensures metadata { metadata_seen result ≡ kept_metadata self.old name.now }
+        ensures header { header_seen result ≡ kept_header self.old name.now }
+    {
+        match self.runs.pop(name) {
+            Some(seen) => seen,
+            None => SeenPayloads::new(self.alloc),
+        }
+    }
+
+    /// Puts in what was seen of a run. Returns the run that there is no room for.
+    fn put(&mut self, name: &str, seen: SeenPayloads) -> Result<Option<KeptRun>, AllocError>
+        ensures metadata { OnOk result (kept_metadata self.new name.now ≡ metadata_seen seen) }
+        ensures header { OnOk result (kept_header self.new name.now ≡ header_seen seen) }
+    {
+        let key = String::from_str(self.alloc, name)?;
+        let displaced = self.runs.push(key, seen)?;
+        Ok(displaced)
+    }
+
+    /// Keeps something that came of a run that is kept.
+    fn keep_next(&mut self, name: &str, came: &Value) -> Result<Option<KeptRun>, AllocError>
+        ensures metadata { OnOk result (kept_metadata self.new name.now
+            ≡ metadata_after (view came.now) (kept_metadata self.old name.now)) }
+        ensures header { OnOk result (kept_header self.new name.now
+            ≡ header_after (started_header (view came.now)) (kept_header self.old name.now)) }
+    {
+        let mut seen = self.take(name);
+        note(self.alloc, &mut seen, came)?;
+        self.put(name, seen)
+    }
+
+    /// Keeps something that came of a run, which was noted before, if there is something to keep.
+    /// Returns the run that there is no room for. `AllocError` if there was no memory: then nothing
+    /// is kept of the run.
+    pub(crate) fn keep(
+        &mut self,
+        name: &str,
+        came: &Value,
+        noted: SeenPayloads,
+    ) -> Result<Option<KeptRun>, AllocError>
+        requires metadata { metadata_seen noted ≡ metadata_after (view came.now) no_members }
+        requires header { header_seen noted ≡ header_after (started_header (view came.now)) None }
+        ensures metadata { OnOk result (kept_metadata self.new name.now
+            ≡ metadata_after (view came.now) (kept_metadata self.old name.now)) }
+        ensures header { OnOk result (kept_header self.new name.now
+            ≡ header_after (started_header (view came.now)) (kept_header self.old name.now)) }
+    {
+        if noted.is_empty() {
+            self.runs.promote(name);
+            return Ok(None);
+        }
+        if self.runs.contains(name) {
+            self.keep_next(name, came)
+        } else {
+            self.put(name, noted)
+        }
+    }
+
+    /// Forgets a run. Returns what was seen of it.
+    pub(crate) fn forget(&mut self, name: &str) -> Option<SeenPayloads>
+        ensures runs { self.new.runs.entries ≡ remove_entry (λ key. bytes_eq name.now (string_bytes key)) self.old.runs.entries }
+        ensures seen { result ≡ kept_run self.old name.now }
+    {
+        self.runs.pop(name)
+    }
+
+    /// A request of a task of a run, with what was seen of it.
+    pub(crate) fn hand_on(&self, name: &str, request: Value) -> Result<Value, AllocError>
+        ensures { IfOk result (λ v. view v ≡ handed_by (kept_run self.now name.now) (view request)) }
+    {
+        match self.runs.peek(name) {
+            Some(seen) => seen.hand_on(self.alloc, &request),
+            None => Ok(request),
+        }
+    }
+}

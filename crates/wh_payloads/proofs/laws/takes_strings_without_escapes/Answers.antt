@@ -1,5 +1,0 @@
-use Rattle.wh_payloads.proofs.Strings.{takes_strings}
-use Rattle.wh_payloads.proofs.laws.takes_strings_without_escapes.Goals as goal
-
-pub returns : goal.returns
-returns c = takes_strings

@@ -1,5 +1,0 @@
-use Rattle.std.proofs.Common.{rules}
-use Rattle.wh_poll.proofs.pairs.unzipped.Goals as goal
-
-pub returns-clause-seconds : goal.returns-clause-seconds
-returns-clause-seconds g c = search rules

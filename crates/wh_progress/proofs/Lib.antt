@@ -1,3 +1,0 @@
-pub mod Batched
-pub mod Counted
-pub mod Telling

@@ -1,4 +1,0 @@
-pub mod Batches
-pub mod Laws
-pub mod Lines
-pub mod Modes

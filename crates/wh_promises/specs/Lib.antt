@@ -1,4 +1,0 @@
-pub mod Courses
-pub mod Watches
-pub mod Promises
-pub mod Deciding

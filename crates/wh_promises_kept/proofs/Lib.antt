@@ -1,4 +1,0 @@
-pub mod Stepped
-pub mod Started
-pub mod Kept
-mod Runs

@@ -1,4 +1,0 @@
-//! The promises of tables hold for histories.
-#![tactic(auto)]
-
-pub mod laws;

@@ -1,8 +1,0 @@
-use Rattle.wh_query_messages.proofs.Reading.{query_is_read, query_with_task_is_read}
-use Rattle.wh_query_messages.proofs.laws.queries_are_read.Goals as goal
-
-pub returns-clause-alone : goal.returns-clause-alone
-returns-clause-alone c = query_is_read
-
-pub returns-clause-with_task : goal.returns-clause-with_task
-returns-clause-with_task c = query_with_task_is_read

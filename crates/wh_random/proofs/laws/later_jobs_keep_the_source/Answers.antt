@@ -1,5 +1,0 @@
-use Rattle.wh_random.proofs.Keeping.{jobs_keep}
-use Rattle.wh_random.proofs.laws.later_jobs_keep_the_source.Goals as goal
-
-pub returns : goal.returns
-returns c = jobs_keep

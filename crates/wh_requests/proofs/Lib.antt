@@ -1,4 +1,0 @@
-pub mod Answering
-pub mod ServerReading
-pub mod Heartbeating
-pub mod Results

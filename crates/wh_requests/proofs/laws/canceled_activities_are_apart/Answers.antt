@@ -1,5 +1,0 @@
-use Rattle.wh_requests.proofs.Heartbeating.{canceled_apart}
-use Rattle.wh_requests.proofs.laws.canceled_activities_are_apart.Goals as goal
-
-pub returns : goal.returns
-returns c = canceled_apart

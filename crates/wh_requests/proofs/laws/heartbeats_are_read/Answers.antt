@@ -1,5 +1,0 @@
-use Rattle.wh_requests.proofs.Heartbeating.{heartbeats_read}
-use Rattle.wh_requests.proofs.laws.heartbeats_are_read.Goals as goal
-
-pub returns : goal.returns
-returns c = heartbeats_read

@@ -1,4 +1,0 @@
-pub mod Requests
-pub mod Apart
-pub mod ServerReads
-pub mod Heartbeats

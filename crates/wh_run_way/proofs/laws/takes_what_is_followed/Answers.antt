@@ -1,5 +1,0 @@
-use Rattle.wh_run_way.proofs.Taking as taking
-use Rattle.wh_run_way.proofs.laws.takes_what_is_followed.Goals as goal
-
-pub returns : goal.returns
-returns c = taking.takes_what_is_followed

@@ -1,3 +1,0 @@
-mod Arrows
-mod Versions
-mod Answered

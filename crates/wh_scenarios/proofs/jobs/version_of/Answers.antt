@@ -1,6 +1,0 @@
-use Rattle.std.proofs.Common.{◌∙◌}
-use Rattle.wh_scenarios.proofs.Versions.{version_is}
-use Rattle.wh_scenarios.proofs.jobs.version_of.Goals as goal
-
-pub returns : goal.returns
-returns c = c.ok.ensures.value ∙ version_is c.args.number.now _ c.parse.ensures.value.0

@@ -1,5 +1,0 @@
-use Rattle.wh_scenarios.proofs.Answered.{each_line}
-use Rattle.wh_scenarios.proofs.laws.follows_each_line.Goals as goal
-
-pub returns : goal.returns
-returns g c = λ kind scenario. each_line g.W.Workflow.program kind scenario

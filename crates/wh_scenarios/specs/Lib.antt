@@ -1,3 +1,0 @@
-pub mod JobTexts
-pub mod CommandTexts
-pub mod Scenarios

@@ -1,6 +1,0 @@
-use Rattle.std.proofs.Common.{◌≡◌, take}
-use Rattle.wh_table.proofs.carrying.joined.Given as goal
-
--- the payloads so far
-abbrev pub invariant-loop-payload : goal.invariant-loop-payload
-invariant-loop-payload l = l.both.items ≡ take l.payload-index l.front

@@ -1,0 +1,8 @@
+use Rattle.std.proofs.Common.{◌≡◌, drop, map}
+use Rattle.wh_table_promises.specs.Private.Seen.{line_seen, config_seen, started}
+use Rattle.wh_table_promises.proofs.config.start_row.Given as goal
+
+-- no row so far counts
+abbrev pub invariant-loop-line : goal.invariant-loop-line
+invariant-loop-line l =
+    started (map line_seen (drop l.line-index l.lines)) (config_seen l.one) ≡ started (map line_seen l.lines) (config_seen l.one)

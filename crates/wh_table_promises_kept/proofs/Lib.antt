@@ -1,2 +1,0 @@
-mod Brought
-mod Checked

@@ -1,5 +1,0 @@
-use Rattle.wh_values.proofs.Shown.{encodings_shown}
-use Rattle.wh_values.proofs.laws.encodings_are_shown.Goals as goal
-
-pub returns : goal.returns
-returns c = encodings_shown

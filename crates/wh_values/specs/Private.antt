@@ -1,2 +1,0 @@
--- What no contract of a public item cites: only those of private functions.
-pub mod Found
