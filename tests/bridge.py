@@ -1024,7 +1024,8 @@ def page_of_readiness():
     """It is ready where a poll has succeeded or is open for a while; and not before, where all are refused, canceled or without a
     task at once as code 4, after a stop."""
     modes = ["refuse"]
-    rules = {"refuse": refuse(7), "empty": lambda *_: b"", "hang": hang, "late": late, "cancel": refuse(1), "late at once": refuse(4)}
+    rules = {"refuse": refuse(7), "cancel": refuse(1), "late at once": refuse(4)}
+    rules |= {"empty": lambda *_: b"", "hang": hang, "late": late}
 
     def rule(message, context, count):
         return rules[modes[0]](message, context, count)

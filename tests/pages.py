@@ -2,11 +2,12 @@
 """Tries the pages of runs: `explain --html FILE` of the built program, over the example histories, edited ones with a fault, one
 whose names are hostile, one of 51,200 events, and runs of a table that came with them.
 
-Each page is read by a parser: its tags balance, nothing in it runs or is fetched, no rule of its style hides text, what is named by
-an id is there, and the times of the picture are those of the table. Its verdict is the line of `replay`, the event that is marked is
-the one that the line names, and both sides of a difference are those that `replay` tells. Whatever the history holds stands as
-text: a history whose names are hostile has the very tags of the same history with plain names. A run of a table has that table with
-marks at the rows that it took, and no other page has one; docs/canceled_order.svg is that of examples/runs/canceled_order.json.
+Each page is read by a parser: its tags balance, nothing in it runs or is fetched, no rule of its style hides text, what is named
+by an id is there, and the times of the picture are those of the table. Its verdict is the line of `replay`, the event that is
+marked is the one that the line names, and both sides of a difference are those that `replay` tells. Whatever the history holds
+stands as text: a history whose names are hostile has the very tags of the same history with plain names. A run of a table has
+that table with marks at the rows that it took, and no other page has one; docs/canceled_order.svg is that of
+examples/runs/canceled_order.json.
 
     tests/pages.py [--program PATH]       crates/wfhost/out/wfhost, where it isn't given
     .. --sizes                            prints how large each page is, and how long it took
