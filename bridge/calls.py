@@ -19,8 +19,8 @@ from counts import Counts, Readiness
 from report import say
 from task_counts import TaskCounts
 
-# The server answers a poll without a task within a minute.
-POLL_SECONDS = 70
+# The server answers a poll without a task within a minute. One that ends after more than LATE_SECONDS got no response.
+POLL_SECONDS, LATE_SECONDS = 70, 69
 CALL_SECONDS = 10
 # How long a heartbeat waits for its response. It is made once, since a handler waits meanwhile, and its next one tells more.
 HEARTBEAT, HEARTBEAT_SECONDS = "RecordActivityTaskHeartbeat", 5
@@ -229,9 +229,14 @@ class Calls:
         return result, None
 
     def count(self, method: str, namespace: str, took: float, code: Optional[grpc.StatusCode]) -> None:
-        """Counts a call. A poll that is empty, or ends at a shutdown, has not failed."""
-        is_normal = code and method.startswith("Poll") and code.value[0] in (CANCELLED, DEADLINE)
-        self.counts.add(namespace, method, took, code.name if code and not is_normal else None)
+        """Counts a call, with its code if it has failed."""
+        has_failed = code and not (method.startswith("Poll") and self.is_normal(code.value[0], took))
+        self.counts.add(namespace, method, took, code.name if code and has_failed else None)
+
+    def is_normal(self, code: int, took: float) -> bool:
+        """Returns whether a poll that ends with this code after so many seconds has not failed: the bridge stops, or the poll
+        was empty. One that is late at once, or gets no response at all, may be one that no server saw."""
+        return code == CANCELLED and self.is_stopped.is_set() or code == DEADLINE and QUICK_SECONDS <= took <= LATE_SECONDS
 
     def name_events(self, result: Dict[str, Any], request: Any) -> None:
         """Gives a name to each type of event that the package does not know and gives as a number. Reports the first event of
@@ -282,16 +287,16 @@ class Calls:
     def poll_once(self, name: str, method: str, request: Any) -> Outcome:
         """Makes a poll once. One that gets no task in time is an empty one. One that is canceled, but not by a shutdown,
         was canceled by a proxy, or by a server that shuts down: a later one may get a task."""
-        begun, number, is_good = time.monotonic(), self.readiness.begin(), False
+        begun, number, is_good = time.monotonic(), self.readiness.begin(name), False
         try:
             result, error = self.ask(method, request, POLL_SECONDS)
-            is_good = error is None or error[0] == DEADLINE
+            is_good = error is None or self.is_normal(error[0], time.monotonic() - begun)
         except ValueError:
             if not self.is_stopped.is_set():
                 raise
             return SHUTDOWN  # The channel was closed.
         finally:
-            self.readiness.end(number, name, is_good)
+            self.readiness.end(number, is_good, time.monotonic() - begun > LATE_SECONDS)
         if error is not None and error[0] == CANCELLED:
             return SHUTDOWN if self.is_stopped.is_set() else (None, (UNAVAILABLE, error[1]))
         if error is not None and error[0] != DEADLINE:
@@ -307,7 +312,7 @@ class Calls:
                 self.tokens.add(task)
         elif took < QUICK_SECONDS:
             self.is_stopped.wait(self.pauses.next(name))
-        elif took > POLL_SECONDS - 1:
+        elif took > LATE_SECONDS:
             what = f"got no response in {POLL_SECONDS} s, and a server gives one in a minute; made again"
             self.reports.add((name, "hangs"), f"{name} {what}")
 

@@ -8,13 +8,13 @@ from bisect import bisect_left
 from collections import Counter, defaultdict
 from http.server import BaseHTTPRequestHandler, ThreadingHTTPServer
 from socket import AF_INET, AF_INET6
-from typing import Any, Callable, Dict, List, Optional, Tuple
+from typing import Any, Callable, Dict, List, Optional, Set, Tuple
 
 from report import Unusable
 
 # The upper bounds of the histograms' buckets, in seconds.
 BOUNDS = (0.01, 0.05, 0.1, 0.5, 1, 2.5, 10, 60)
-# A poll that is open for so many seconds counts as accepted.
+# A poll that is open for so many seconds counts as accepted, unless the last one of its Task Queue got no response.
 OPEN_SECONDS = 5
 # The families of metrics, each with what it counts: of calls, and of polls.
 FAMILIES = {"temporal_request": "Calls that are no polls", "temporal_long_request": "Polls"}
@@ -98,25 +98,34 @@ class Readiness:
     def __init__(self) -> None:
         self.lock, self.last = threading.Lock(), 0
         self.succeeded: Dict[str, bool] = {}
-        self.open: Dict[int, float] = {}
+        # The Task Queues whose last poll got no response.
+        self.silent: Set[str] = set()
+        # The open polls by their numbers: the Task Queue of each, and when it began.
+        self.open: Dict[int, Tuple[str, float]] = {}
 
-    def begin(self) -> int:
+    def begin(self, queue: str) -> int:
         """Notes that a poll begins. Returns its number."""
         with self.lock:
             self.last += 1
-            self.open[self.last] = time.monotonic()
+            self.open[self.last] = queue, time.monotonic()
             return self.last
 
-    def end(self, number: int, queue: str, is_good: bool) -> None:
+    def end(self, number: int, is_good: bool, is_silent: bool) -> None:
+        """Notes that a poll ends: whether it succeeded, and whether it got no response."""
         with self.lock:
-            del self.open[number]
+            queue, _ = self.open.pop(number)
             self.succeeded[queue] = is_good
+            if is_silent and not is_good:
+                self.silent.add(queue)
+            else:
+                self.silent.discard(queue)
 
     def is_ready(self) -> bool:
         """Returns whether the last poll of some Task Queue succeeded, or one is open for a while."""
         with self.lock:
-            begun = min(self.open.values(), default=time.monotonic())
-            return any(self.succeeded.values()) or time.monotonic() - begun > OPEN_SECONDS
+            now = time.monotonic()
+            open_ones = [begun for queue, begun in self.open.values() if queue not in self.silent]
+            return any(self.succeeded.values()) or now - min(open_ones, default=now) > OPEN_SECONDS
 
 
 def content_of(path: Optional[str]) -> str:

@@ -47,7 +47,7 @@ os.environ.setdefault("GRPC_VERBOSITY", "NONE")  # This program reports each err
 # How often gRPC looks, while no call is open, whether a connection is there again: every five seconds by default.
 os.environ.setdefault("GRPC_CLIENT_CHANNEL_BACKUP_POLL_INTERVAL_MS", "250")
 
-# A process has at most 64 workers and a thread that answers queries, each with one request open.
+# A process has at most 64 workers, two threads that answer queries, and a timer that sends heartbeats, each with one request open.
 MOST_CALLS = 80
 # The longest line that the host reads, in bytes, and how deep its values may nest.
 MOST_BYTES, MOST_LEVELS = 128 << 20, 127

@@ -92,6 +92,12 @@ def refuse_by_identity(message, context, count):
     context.abort(CODES[int(message.identity)], "no")
 
 
+def late(message, context, count):
+    """A rule for polls: no task after a while, as code 4."""
+    time.sleep(1.5)
+    context.abort(CODES[4], "late")
+
+
 def hang(message, context, count):
     """A rule that gives no response."""
     wait_for_caller(context)
@@ -265,12 +271,25 @@ def event_of_an_unknown_type():
 
 
 def polls_that_hang():
-    """Polls to which there is no response are empty, and that is told once."""
-    with Server({TASK: lambda *_: time.sleep(80) or b""}) as server, Bridge(server.port) as bridge:
+    """Polls to which there is no response are empty, and that is told once. They have failed: until one succeeds an open one
+    makes nothing ready."""
+    port = free_port()
+
+    def rule(message, context, count):
+        return hang(message, context, count) if message.identity == "again" else time.sleep(80) or b""
+
+    with Server({TASK: rule}) as server, Bridge(server.port, "--listen", f"127.0.0.1:{port}") as bridge:
         for number in range(2):
             bridge.ask(number, TASK, POLL)
+        soon("they are open for a while", lambda: page_of(port, "/ready")[0] == 200)
         bridge.talk.settimeout(75)
         same("outcomes", [outcome(one) for one in bridge.all(2).values()], [{}] * 2)
+        same("none has succeeded", page_of(port, "/ready")[0], 503)
+        labels = {"namespace": "default", "operation": TASK, "status_code": "DEADLINE_EXCEEDED"}
+        same("failures", value_of(page_of(port, "/metrics")[1], "temporal_long_request_failure_total", **labels), 2)
+        bridge.ask(2, TASK, {**POLL, "identity": "again"})
+        time.sleep(7)
+        same("one is open for a while again", page_of(port, "/ready")[0], 503)
         bridge.send("@end 0")
         told = "got no response in 70 s, and a server gives one in a minute; made again"
         same("said", bridge.end(), f"temporal_bridge: {TASK} of q {told}\n")
@@ -853,15 +872,21 @@ def value_of(text, name, **labels):
 
 
 def page_of_metrics():
-    """The metrics are those of the calls, with their codes, and those of the worker's own file."""
-    rules = {TASK: refuse_by_identity, PAGE: refuse(9), ACTIVITY: refuse(4)}
+    """The metrics are those of the calls, with their codes, and those of the worker's own file. Code 4 is no failure of a poll
+    that was open for a while, nor code 1 at a stop."""
+    special = {"late": late, "open": hang}
+    rules = {TASK: refuse_by_identity, PAGE: refuse(9)}
+    rules[ACTIVITY] = lambda message, *them: special.get(message.identity, refuse_by_identity)(message, *them)
+    of_activities = {"namespace": "default", "operation": ACTIVITY}
+    canceled = {**of_activities, "status_code": "CANCELLED"}
     with tempfile.TemporaryDirectory() as path, Server(rules) as server:
         port, own = free_port(), Path(path, "own.prom")
         with Bridge(server.port, "--listen", f"127.0.0.1:{port}", "--worker-metrics", str(own)) as bridge:
             bridge.answered(ANSWER, answer_to("token"))
             for code in (14, 8, 14):
                 bridge.answered(TASK, {**POLL, "identity": str(code)})
-            bridge.answered(ACTIVITY, POLL)
+            for identity in ("late", "4", "1"):
+                bridge.answered(ACTIVITY, {**POLL, "identity": identity})
             bridge.answered(PAGE, {"namespace": 'a"b', "execution": {}})
             status, text = page_of(port, "/metrics")
             same("status", status, 200)
@@ -873,18 +898,26 @@ def page_of_metrics():
                 (3, "temporal_long_request_total", {"namespace": "default", "operation": TASK}),
                 (2, "temporal_long_request_failure_total", {"namespace": "default", "operation": TASK, "status_code": "UNAVAILABLE"}),
                 (1, "temporal_long_request_failure_total", {"namespace": "default", "operation": TASK, "status_code": "RESOURCE_EXHAUSTED"}),
-                (1, "temporal_long_request_total", {"namespace": "default", "operation": ACTIVITY}),
+                (3, "temporal_long_request_total", of_activities),
+                (1, "temporal_long_request_failure_total", {**of_activities, "status_code": "DEADLINE_EXCEEDED"}),
+                (1, "temporal_long_request_failure_total", canceled),
                 (3, "temporal_long_request_latency_seconds_bucket", {"namespace": "default", "operation": TASK, "le": "+Inf"}),
                 (3, "temporal_long_request_latency_seconds_count", {"namespace": "default", "operation": TASK}),
             ]
             same("values", [value_of(text, name, **labels) for _, name, labels in rows], [value for value, _, _ in rows])
-            same("an empty poll is no failure", f'failure_total{{namespace="default",operation="{ACTIVITY}"' in text, False)
             kinds = [line.split()[2] for line in text.splitlines() if line.startswith("# TYPE ")]
             same("each family once", len(kinds), len(set(kinds)))
             own.write_text("wfhost_polls_total 5\n")
             has("metrics", page_of(port, "/metrics")[1], "\nwfhost_polls_total 5\n")
             same("live", page_of(port, "/live")[0], 200)
             same("no page", page_of(port, "/other")[0], 404)
+            bridge.ask(1, ACTIVITY, {**POLL, "identity": "open"})
+            soon("the poll is open", lambda: server.calls[ACTIVITY] == 4)
+            bridge.child.terminate()
+            same("lines", [bridge.next() for _ in range(2)][1].get("id"), 1)
+            text = page_of(port, "/metrics")[1]
+            same("polls after a stop", value_of(text, "temporal_long_request_total", **of_activities), 4)
+            same("failures after a stop", value_of(text, "temporal_long_request_failure_total", **canceled), 1)
             bridge.done()
 
 
@@ -988,11 +1021,14 @@ def page_of_tasks():
 
 
 def page_of_readiness():
-    """It is ready where a poll has succeeded or is open for a while; and not before, where all are refused, after a stop."""
+    """It is ready where a poll has succeeded or is open for a while; and not before, where all are refused, canceled or without a
+    task at once as code 4, after a stop."""
     modes = ["refuse"]
+    rules = {"refuse": refuse(7), "cancel": refuse(1), "late at once": refuse(4)}
+    rules |= {"empty": lambda *_: b"", "hang": hang, "late": late}
 
     def rule(message, context, count):
-        return {"refuse": refuse(7), "empty": lambda *_: b"", "hang": hang}[modes[0]](message, context, count)
+        return rules[modes[0]](message, context, count)
 
     with Server({TASK: rule}) as server:
         port = free_port()
@@ -1007,6 +1043,10 @@ def page_of_readiness():
             modes[0] = "refuse"
             bridge.answered(TASK, POLL)
             same("all are refused again", page_of(port, "/ready")[0], 503)
+            for mode, status in [("late at once", 503), ("late", 200), ("cancel", 503), ("late at once", 503)]:
+                modes[0] = mode
+                bridge.answered(TASK, POLL)
+                same(mode, page_of(port, "/ready")[0], status)
             modes[0] = "hang"
             bridge.ask(1, TASK, POLL)
             same("a poll was only just made", page_of(port, "/ready")[0], 503)

@@ -1,8 +1,8 @@
 #!/usr/bin/env python3
 """Tries the tables of examples/tables with the built program: `check` finds no fault in any, `try` finds that each follows the
 scenarios beside it, and `check --html` writes a page that is well formed, with each state of the table and a way from each row
-that leaves its state. A twin of a table for each of its promises breaks that one: `check` has to print the way that is written
-below, `try` to find that the twin follows it, and `check --html` to mark its rows.
+that leaves its state, whose style hides no text. A twin of a table for each of its promises breaks that one: `check` has to print
+the way that is written below, `try` to find that the twin follows it, and `check --html` to mark its rows.
 
     tests/examples.py [TABLE..] [--program PATH..]
 
@@ -18,6 +18,7 @@ import xml.etree.ElementTree as tree
 from functools import partial
 from pathlib import Path
 
+from pages import hiding_rules
 from rows import PROCESSORS, PROGRAM, TOP, need, pick, try_rows, words_of
 
 LIMIT_SECONDS = 60
@@ -86,6 +87,8 @@ def faults_of_page(page, table):
         yield f"{ways} ways"
     if table["title"] not in html.unescape(page):
         yield "no title"
+    for rule in hiding_rules("".join(re.findall("<style>(.*?)</style>", page, re.DOTALL))):
+        yield f"the style hides text: {rule}"
 
 
 def faults_of(program, path):

@@ -2,11 +2,12 @@
 """Tries the pages of runs: `explain --html FILE` of the built program, over the example histories, edited ones with a fault, one
 whose names are hostile, one of 51,200 events, and runs of a table that came with them.
 
-Each page is read by a parser: its tags balance, nothing in it runs or is fetched, what is named by an id is there, and the
-times of the picture are those of the table. Its verdict is the line of `replay`, the event that is marked is the one that the
-line names, and both sides of a difference are those that `replay` tells. Whatever the history holds stands as text: a history
-whose names are hostile has the very tags of the same history with plain names. A run of a table has that table with marks at the
-rows that it took, and no other page has one; docs/canceled_order.svg is that of examples/runs/canceled_order.json.
+Each page is read by a parser: its tags balance, nothing in it runs or is fetched, no rule of its style hides text, what is named
+by an id is there, and the times of the picture are those of the table. Its verdict is the line of `replay`, the event that is
+marked is the one that the line names, and both sides of a difference are those that `replay` tells. Whatever the history holds
+stands as text: a history whose names are hostile has the very tags of the same history with plain names. A run of a table has
+that table with marks at the rows that it took, and no other page has one; docs/canceled_order.svg is that of
+examples/runs/canceled_order.json.
 
     tests/pages.py [--program PATH]       crates/wfhost/out/wfhost, where it isn't given
     .. --sizes                            prints how large each page is, and how long it took
@@ -45,6 +46,11 @@ HOSTILE = (
     "<script>alert(\"1\")</script><img src=x onerror='alert(2)'> & &lt; &#x3c; &amp; ]]> \0\x01\x1b[31m\t\n\x7f\x85\u202ekcab"
     "</title></svg></table></details></style>--><!-- \u65e5\u672c\u8a9e \U0001f642 {hole} \\ "
 )
+# What a rule of a style sheet says where it hides the text of its elements.
+HIDES = re.compile(
+    r"(?<![\w-])(?:display:\s*none|(?:content-)?visibility:\s*(?:hidden|collapse)"
+    r"|(?:opacity|font-size):\s*0*\.?0*(?:%|[a-z]+)?\s*(?:$|[;!]))"
+)
 STAMP = r"\d+-\d\d-\d\d \d\d:\d\d:\d\d(?:\.\d+)?"
 WIDTHS = {"wide": 1280, "narrow": 420}
 EVENTS = 51_200
@@ -61,6 +67,18 @@ def seen(text, most):
     return UNSEEN.sub("\ufffd", shown) + ("…" if len(text) > most else "")
 
 
+def is_mark(names):
+    """Whether a rule is for what stands before elements, or behind them, alone: that is no text."""
+    return all(re.search("::(before|after)$", name.strip()) for name in names.split(","))
+
+
+def hiding_rules(style):
+    """The rules of a style sheet that hide text, and the marks before or behind an element that are text."""
+    worded = [f"a mark {text}" for text in re.findall(r"(?<![\w-])content:([^;}]*)", style) if text != "''"]
+    rules = re.findall(r"([^{}]+)\{([^{}]*)\}", style)
+    return worded + [f"{names.strip()}{{{told}}}" for names, told in rules if HIDES.search(told) and not is_mark(names)]
+
+
 class Page(HTMLParser):
     """What a parser finds in a page."""
 
@@ -73,6 +91,7 @@ class Page(HTMLParser):
         self.ids = []
         self.refs = []
         self.texts = []
+        self.styles = []
         self.headings = []
         self.lanes = []
         self.in_lane = False
@@ -135,6 +154,7 @@ class Page(HTMLParser):
 
     def handle_data(self, data):
         if self.open and self.open[-1] == "style":
+            self.styles.append(data)
             return
         self.texts.append(data)
         if self.part:
@@ -161,6 +181,7 @@ class Page(HTMLParser):
         """What is wrong with the page by itself."""
         wrong = list(self.wrong)
         text = "\0".join(self.texts)
+        wrong += [f"hides text: {rule}" for rule in hiding_rules("".join(self.styles))]
         if len(self.ids) != len(set(self.ids)):
             wrong.append(f"an id twice: {self.ids}")
         wrong += [f"no element has the id {ref}" for ref in self.refs if ref not in self.ids]
