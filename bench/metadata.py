@@ -140,7 +140,8 @@ def main():
     for payloads, has_header in ROWS:
         without, more = (measure(asked, payloads, has_header, has_more) for has_more in (False, True))
         each = f"{(more - without) / payloads:.0f}" if payloads else "-"
-        print(ROW.format(payloads, "yes" if has_header else "no", f"{without:.0f}", f"{more:.0f}", f"{more - without:.0f}", each), flush=True)
+        figures = [f"{figure:.0f}" for figure in (without, more, more - without)]
+        print(ROW.format(payloads, "yes" if has_header else "no", *figures, each), flush=True)
 
 
 if __name__ == "__main__":
