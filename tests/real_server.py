@@ -102,7 +102,6 @@ POLICIES = """
 task_queue = "{0}-labels"
 start_to_close = 60
 heartbeat = 30
-retry = {{ maximum_attempts = 2, initial_interval = 1 }}
 
 [activity.ChargeCard]
 task_queue = "{0}-labels"
@@ -679,7 +678,7 @@ class Policies(Part):
         asked, self.room = trial.asked, tempfile.TemporaryDirectory()
         file = Path(self.room.name, "policies.toml")
         file.write_text(POLICIES.format(trial.queue, LONG_NAME))
-        self.worker = Worker(asked, trial.address, asked.program, self.queue, more=["--policies", str(file)])
+        self.worker = Worker(asked, trial.address, asked.program, self.queue, more=["--policies", str(file), "--activity-attempts", "2"])
         self.till = Worker(asked, trial.address, asked.orders, trial.queue + "-labels") if asked.orders else None
         # A worker's calls have a connection of their own.
         self.own = Client(trial.address, asked.namespace, channel_of(asked, trial.address), beside_of(asked))
