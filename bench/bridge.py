@@ -3,7 +3,12 @@
 nothing, and prints a row for each number of events in a task and of threads of the worker: workflow tasks a second, each a
 poll and an answer, of each bridge. `--bridge FILE..` measures several, which take turns; a figure is the median of
 `--rounds` rounds of `--seconds` seconds, and the last column is the last bridge's by the first one's. It is no part of the
-gate, and its figures are those of the machine that it runs on and of what else runs there. It needs grpcio and protobuf."""
+gate, and its figures are those of the machine that it runs on and of what else runs there. It needs grpcio and protobuf.
+
+    bench/bridge.py                                 # this bridge: a minute and a half
+    git worktree add ../before COMMIT               # and that of an earlier commit beside it, its column first
+    bench/bridge.py --bridge ../before/bridge/temporal_bridge.py bridge/temporal_bridge.py
+"""
 
 import argparse
 import os
@@ -126,7 +131,9 @@ def measure(bridge, port, threads, seconds):
     """The tasks a second of a bridge."""
     command = [sys.executable, str(bridge), "--address", f"127.0.0.1:{port}", "--"]
     command += [sys.executable, "-c", WORKER, str(threads), str(seconds)]
-    path = {**os.environ, "PYTHONPATH": str(TOP / "standin/trimmed")}
+    # Nothing in the environment asks the bridge for anything.
+    kept = {name: value for name, value in os.environ.items() if not name.startswith("TEMPORAL_")}
+    path = {**kept, "PYTHONPATH": str(TOP / "standin/trimmed")}
     ran = subprocess.run(command, capture_output=True, text=True, timeout=60 + 10 * seconds, env=path)
     found = re.search(r"tasks a second ([\d.]+)", ran.stderr)
     if found is None:

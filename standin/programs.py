@@ -14,9 +14,9 @@ def plain_text(payload):
 
 
 class Program:
-    """A workflow that issues no commands and knows no query."""
+    """A workflow that issues no commands, knows no query and declares no signals."""
 
-    known = "none"
+    known, signals = "none", ()
 
     def copy(self):
         return copy.copy(self)
@@ -124,7 +124,7 @@ class Relay(Program):
 class Order(Program):
     """An order, by the table above `Order` in crates/order/src/lib.rt."""
 
-    known, state, parcel = "status", "charging", "parcel"
+    known, signals, state, parcel = "status", ("cancel",), "charging", "parcel"
 
     def query(self, kind, values):
         return (True, self.state) if kind == "status" else super().query(kind, values)

@@ -8,12 +8,16 @@
 
 It starts runs of the samples (and of orders, if --orders names the program that has them), signals some and requests the
 cancellation of some, kills the bridge and its worker meanwhile and starts them again, and waits until all runs are closed.
-It reads the pages of the bridge (--listen). Then it tries the bridge alone, as its worker: a namespace that is not there, a retry
-policy that no server takes, and the result of an activity while the way to the server is away for a quarter of a minute. And it
-tries the program behind a proxy that makes trouble: polls that are refused or late, responses that are lost, pages that are
-refused, events of unknown types, and connections that end.
-It asks for what only a server can tell: whether heartbeats come back in a later attempt, what becomes of payloads of a codec, of an
-update and of an answer that is too large, what it says of a policy that only it can refuse, and with --api-key-file of a bad key.
+It reads the pages of the bridge (--listen), and asks a run of each type for what a Web UI asks for. Then it tries the bridge alone,
+as its worker: a namespace that is not there, a retry policy that no server takes, and the result of an activity while the way to
+the server is away for a quarter of a minute. And it tries the program behind a proxy that makes trouble: polls that are refused or
+late, responses that are lost, pages that are refused, events of unknown types, and connections that end; and in a namespace that
+is not there, where it has to end by itself.
+It asks for what only a server can tell: whether the details of a heartbeat come back in a later attempt, which the bridge hands on
+and the program's handler reads; whether queries come with the tasks of a busy run, whose answers have to be of the state that the
+task leaves; what becomes of payloads of a codec, which go to an activity and to a child workflow and back, of the header of a run's
+start, of an update and of an answer that is too large; what it says of a policy that only it can refuse, and with --api-key-file of
+a bad key.
 Then it fetches each history by GetWorkflowExecutionHistory, writes it to a file in the form of the Temporal CLI, and
 replays the folder with the program. The last line is `N runs, N closed, 0 wrong`, and the exit status is 1 if anything is
 wrong. Children, and runs that continue others as new, count as runs too. It uses task queues and workflow ids of its own,
@@ -51,6 +55,7 @@ END_SECONDS, REPLAY_SECONDS = 30, 600
 # How long the way to the server is away, and how long a poll of the bridge alone may take.
 AWAY_SECONDS, TASK_SECONDS = 15, 90
 INVALID, DEADLINE, DENIED, UNAUTHENTICATED = 3, 4, 7, 16
+NORMAL = 1  # The kind of a Task Queue that is not sticky.
 # A retry policy that no server takes, and the name of a Task Queue that is too long for one.
 BAD_POLICY = {"initialInterval": "60s", "maximumInterval": "10s", "maximumAttempts": 2}
 LONG_NAME = "x" * 1_001
@@ -62,6 +67,8 @@ SIGNALS = {"Family": (0.5, "stop"), "Order": (1.0, "cancel"), "Nap": (0.3, "nois
 CANCELS = {"Greet": 0.3}
 # The queries that runs of a type answer, with all answers, of which the last one is that of a closed run.
 QUERIES = {"Order": ("status", ['"charging"', '"held"', '"shipping"', '"closed"']), "Racer": ("phase", ['"racing"', '"late"', '"done"'])}
+# The signals that runs of a type declare.
+DECLARED = {"Order": ["cancel"]}
 # The queries that are reserved, and what the second of them gives.
 METADATA, TRACE, NO_TRACE = "__temporal_workflow_metadata", "__stack_trace", "There is no stack trace: "
 # The options that the bridge is given as they are, beside --tls.
@@ -70,29 +77,48 @@ CHILD = "childWorkflowExecutionStartedEventAttributes"
 STARTED, CONTINUED = "workflowExecutionStartedEventAttributes", "workflowExecutionContinuedAsNewEventAttributes"
 # The event of a signal, the number of a type that no package knows, and what a query gives of a type that no run knows.
 SIGNALED, UNKNOWN_TYPE, UNKNOWN_QUERY = 26, 999, "unknown query type weather; known: none"
+# What such a query gives of a table, and the states of the table that counts.
+UNKNOWN_OF_TABLE, STATES = "unknown query type weather; known: state", ('"even"', '"odd"')
 # The trouble that a proxy makes, in this order; and what is left out, and why.
 TROUBLES = ("refused_polls", "late_polls", "lost_responses", "refused_pages", "unknown_events", "busy_runs", "payloads_of_a_codec",
-            "discarded_tasks", "large_answers")
+            "children_of_a_codec", "discarded_tasks", "large_answers")
 LEFT_OUT = {}
-# A payload of a codec.
+# A payload of a codec; the same after its key has turned; and one of another encoding that has more metadata.
 CODED = {"metadata": {"encoding": b"binary/encrypted", "encryption-key-id": b"key-7"}, "data": b"\0\1secret"}
-# Tables: one that hands its input on to an activity that nobody knows, and as its result; one whose first answer has its input three
-# times; and one that has labels printed.
+TURNED = {**CODED, "metadata": {**CODED["metadata"], "encryption-key-id": b"key-8"}}
+TYPED = {"metadata": {"encoding": b"json/protobuf", "messageType": b"shop.Order"}, "data": b'{"cents":5}'}
+# Tables: one that hands its input on to an activity that nobody knows, and as its result; one that gives its input back; one whose
+# first answer has its input three times; and one that counts signals, in its way.
 HANDS_ON = [["asked", "start", "", "activity a Nobody input"], ["asked", "failed a", "", "complete input"]]
+GIVES_BACK = [["asked", "start", "", "complete input"]]
 THREE_TIMES = [["asked", "start", "", [f"activity {name} Nobody input" for name in "abc"]]]
-PRINTS = [["asked", "start", "", "activity a PrintLabels input"], ["asked", "done a", "", "complete brought"]]
+COUNTS = [["even", "start", "", "timer end 86400"], ["even", "signal noise", "", "", "odd"], ["odd", "signal noise", "", "", "even"]]
 # The bytes of an input of which a server's message does not hold three, nor one of the stand-in; and how many labels are printed.
 LARGE_INPUT, LARGE_FOR_STAND_IN, LABELS = 3 << 19, 3 << 17, 200
-# What is asked of a server with the activities of the tables and of Greet: the last is refused by it alone.
+# What is asked of a server with the activities of the tables, by the Task Queue of the trial, and of Greet: the last is refused by it
+# alone. This script serves the activity Keep.
 POLICIES = """
 [activity.PrintLabels]
-task_queue = "{}"
+task_queue = "{0}-labels"
 start_to_close = 60
 heartbeat = 30
 
+[activity.ChargeCard]
+task_queue = "{0}-labels"
+
+[activity.Keep]
+task_queue = "{0}-keep"
+
 [activity.greet]
-task_queue = "{}"
+task_queue = "{1}"
 """
+# What the bridge of the samples has counted when its runs are closed.
+METRICS_OF_CLOSED = ("temporal_workflow_completed_total{", "temporal_workflow_task_queue_poll_succeed_total{",
+                     "temporal_workflow_task_schedule_to_start_latency_seconds_count{")
+# The ends of the names of all Task Queues.
+QUEUES = ("", "-orders", "-bridge", "-trouble", "-policies", "-labels", "-keep")
+# The failure of an attempt that another one follows.
+LATER = {"message": "later", "source": "trial", "applicationFailureInfo": {"type": "Later"}}
 # Each channel has a connection of its own, and takes messages of any size.
 CHANNEL_OPTIONS = (("grpc.use_local_subchannel_pool", 1), ("grpc.max_receive_message_length", -1))
 # For how many seconds the proxy lets a poll wait; after how many milliseconds it ends a connection, and its calls.
@@ -121,6 +147,23 @@ def beside_of(asked):
 def table_of(rows):
     """The table of a run."""
     return {"version": 1, "rows": rows}
+
+
+def asks_for(kind):
+    """The table of a run that hands its input on to an activity, and has the activity's result."""
+    return table_of([["asked", "start", "", f"activity a {kind} input"], ["asked", "done a", "", "complete brought"]])
+
+
+def has_child(name):
+    """The table of a run that hands its input on to a child of this id, and has the child's result."""
+    return table_of([["asked", "start", "", f"child {name} Table input"], ["asked", f"child-done {name}", "", "complete brought"]])
+
+
+def tells_of(told, kind, queries):
+    """Whether what is told for a Web UI is of a run of this type, which answers these queries."""
+    found = json.loads(told)["definition"] if told.startswith("{") else {}
+    names = [[one["name"] for one in found.get(f"{what}Definitions", [])] for what in ("query", "signal")]
+    return [found.get("type"), *names] == [kind, queries, DECLARED.get(kind, [])]
 
 
 def header_of(client):
@@ -181,14 +224,14 @@ class Worker:
             self.kill()
             return None
 
-    def faults_of_pages(self):
-        """What is wrong with the pages of a worker that polls."""
+    def faults_of_pages(self, *more):
+        """What is wrong with the pages of a worker that polls, whose metrics have these names too."""
         until, pages = time.monotonic() + TASK_SECONDS, {}
         while time.monotonic() < until and pages.get("/ready", (0, ""))[0] != 200:
             time.sleep(0.5)
             pages = {path: page_of(self.port, path) for path in ("/live", "/ready", "/metrics")}
         faults = [f"{path} gives {status} {text!r}" for path, (status, text) in pages.items() if status != 200]
-        names = ('temporal_request_total{', 'temporal_long_request_latency_seconds_count{', 'operation="GetSystemInfo"')
+        names = ('temporal_request_total{', 'temporal_long_request_latency_seconds_count{', 'operation="GetSystemInfo"', *more)
         return faults + [f"/metrics is without {name}" for name in names if name not in pages["/metrics"][1]]
 
     def calls_of(self, method):
@@ -321,10 +364,10 @@ class Alone:
         attributes = {"activityId": "1", "activityType": {"name": "PrintLabels"}, "input": self.input, "taskQueue": {"name": self.queue}}
         attributes.update(startToCloseTimeout="60s", heartbeatTimeout="30s", retryPolicy={"initialInterval": "1s", "maximumAttempts": 3})
         self.see("an answer", self.answer(self.poll("Workflow"), "SCHEDULE_ACTIVITY_TASK", attributes), {})
-        task, failure = self.poll("Activity"), {"message": "later", "source": "trial", "applicationFailureInfo": {"type": "Later"}}
+        task = self.poll("Activity")
         self.see("the heartbeat timeout", task.get("heartbeatTimeout"), "30s")
         self.see("a heartbeat", self.end(task, HEARTBEAT, details=self.input), {})
-        self.see("a failure", self.end(task, "RespondActivityTaskFailed", failure=failure), {})
+        self.see("a failure", self.end(task, "RespondActivityTaskFailed", failure=LATER), {})
         task = self.poll("Activity")
         self.see("the second attempt", [task.get(name) for name in ("attempt", "heartbeatDetails")], [2, self.input])
         self.client.signal(execution, "noise")
@@ -360,22 +403,62 @@ class Alone:
         self.see("the end", self.answer(self.poll("Workflow", self.sticky), "COMPLETE_WORKFLOW_EXECUTION", {"result": self.input}), {})
 
 
-class Trouble:
+class Part:
+    """A part of the trial that starts runs on a Task Queue of its own. They count as runs of the samples."""
+
+    def __init__(self, trial, name, end):
+        self.trial, self.client, self.name, self.queue = trial, trial.client, name, trial.queue + end
+        self.wrong, self.count = [], 0
+
+    def see(self, what, found, wanted):
+        if found != wanted:
+            self.wrong.append(f"{self.name}: {what}: {found!r}, not {wanted!r}")
+
+    def start(self, kind, *values, coded=(), **more):
+        """Starts a run, with payloads of a codec after the JSON values."""
+        self.count += 1
+        workflow_id = f"{self.queue}-{self.count}"
+        input = {"payloads": [*payloads(*values)["payloads"], *coded]}
+        execution = self.client.start(kind, workflow_id, self.queue, input, **with_memo(self.client), **more)
+        self.trial.executions[workflow_id] = (self.trial.services[0], kind, execution)
+        return execution
+
+    def wait(self, what, condition):
+        soon(what, condition, TASK_SECONDS)
+
+    def are_closed(self, runs):
+        self.wait(f"{len(runs)} runs are closed", lambda: not any(map(self.client.is_open, runs)))
+
+    def types(self, execution):
+        return [event["eventType"].removeprefix("EVENT_TYPE_") for event in self.client.history(execution)]
+
+    def attributes(self, execution, kind):
+        """The attributes of the first event of a type."""
+        name, found = attributes_name(kind).replace("Command", "Event"), self.client.history(execution)
+        return next((event.get(name, {}) for event in found if event["eventType"] == f"EVENT_TYPE_{kind}"), {})
+
+    def result(self, execution):
+        """The result of a run that has completed."""
+        return self.attributes(execution, "WORKFLOW_EXECUTION_COMPLETED").get("result")
+
+    def in_json(self, *some):
+        """Payloads as JSON has them."""
+        return self.client.json.MessageToDict(self.client.messages.StartWorkflowExecutionRequest(input={"payloads": some}).input)
+
+
+class Trouble(Part):
     """The program and its bridge behind a proxy that makes trouble, and that ends each connection after a while."""
 
     def __init__(self, trial):
         from plans import changed, in_turn, lost, refused, slow
         from proxy import Proxy
 
-        asked, self.trial, self.client, self.queue = trial.asked, trial, trial.client, trial.queue + "-trouble"
+        super().__init__(trial, "behind a proxy", "-trouble")
+        asked = trial.asked
         self.proxy = Proxy(channel_of(asked, trial.address), beside_of(asked), PROXY_OPTIONS, POLL_SECONDS)
-        self.plan, self.wrong, self.count = self.proxy.plan, [], 0
+        self.plan, self.begun, self.beside = self.proxy.plan, {}, {}
         self.changed, self.in_turn, self.lost, self.refused, self.slow = changed, in_turn, lost, refused, slow
         self.worker = Worker(asked, f"127.0.0.1:{self.proxy.port}", asked.program, self.queue, ["--namespace", asked.namespace], cache=1)
-
-    def see(self, what, found, wanted):
-        if found != wanted:
-            self.wrong.append(f"behind a proxy: {what}: {found!r}, not {wanted!r}")
 
     def run(self):
         """Tries each trouble: what is wrong."""
@@ -404,26 +487,6 @@ class Trouble:
         self.see("lines without the Task Queue or the run", [line for line in failed if line not in named], [])
         self.see("a line of the poll that was refused", f"{TASK} of {self.queue} is refused: not now (code {NOT_FOUND})" in said, True)
         self.see("a line of the task that was given up", "bad token; its task is given up, and comes again (code 5)" in said, True)
-
-    # Runs.
-
-    def start(self, kind, *values, coded=(), **more):
-        """Starts a run, with payloads of a codec after the JSON values."""
-        self.count += 1
-        workflow_id = f"{self.queue}-{self.count}"
-        input = {"payloads": [*payloads(*values)["payloads"], *coded]}
-        execution = self.client.start(kind, workflow_id, self.queue, input, **with_memo(self.client), **more)
-        self.trial.executions[workflow_id] = (self.trial.services[0], kind, execution)
-        return execution
-
-    def wait(self, what, condition):
-        soon(what, condition, TASK_SECONDS)
-
-    def are_closed(self, runs):
-        self.wait(f"{len(runs)} runs are closed", lambda: not any(map(self.client.is_open, runs)))
-
-    def types(self, execution):
-        return [event["eventType"].removeprefix("EVENT_TYPE_") for event in self.client.history(execution)]
 
     def is_normal(self, call):
         """Whether a poll is one of the normal queue."""
@@ -485,16 +548,12 @@ class Trouble:
         return task.SerializeToString()
 
     def busy_runs(self):
-        """A query of a run that always has a task is answered with one of them."""
-        results = []
-
-        def note(call):
-            results.extend(self.client.messages.RespondWorkflowTaskCompletedRequest.FromString(call.request).query_results)
-            return self.slow(0.3)(call)
-
-        self.plan.add(ANSWER, note)
-        execution, is_over = self.start("Nap"), threading.Event()
-        self.wait("the nap begins", lambda: "TIMER_STARTED" in self.types(execution))
+        """Queries of a run that always has a task are answered with its tasks, each in the state that its task leaves."""
+        self.plan.add(TASK, self.changed(self.note_task))
+        self.plan.add(ANSWER, self.note_answer)
+        time.sleep(2 * POLL_SECONDS)  # Earlier polls are over.
+        execution, is_over = self.start("Table", table_of(COUNTS)), threading.Event()
+        self.wait("the run begins", lambda: "TIMER_STARTED" in self.types(execution))
 
         def signal_on():
             while not is_over.wait(0.05):
@@ -504,21 +563,46 @@ class Trouble:
         signals.start()
         try:
             time.sleep(1)
-            self.see("the query of a busy run", UNKNOWN_QUERY in self.client.query(execution, "weather", 5), True)
-            given = [self.client.query(execution, TRACE, 5) for _ in range(3)]
-            self.see("the queries for a trace", [one for one in given if NO_TRACE not in one], [])
+            self.ask_busy(execution)
         finally:
             is_over.set()
             signals.join()
-        self.see("queries came with a task", results != [], True)
+        self.see_states(execution)
         self.client.terminate(execution)
 
-    # What a server makes of what is sent.
+    def ask_busy(self, execution):
+        """Asks a busy run, some times, for what it does not know, for what is reserved, and for its state."""
+        for kind, times, is_right in (
+            ("weather", 1, lambda given: UNKNOWN_OF_TABLE in given),
+            (TRACE, 3, lambda given: NO_TRACE in given),
+            (METADATA, 3, lambda given: tells_of(given, "Table", ["state"])),
+            ("state", 5, lambda given: given in STATES),
+        ):
+            given = [self.client.query(execution, kind, 5) for _ in range(times)]
+            self.see(f"the query {kind} of a busy run", [one for one in given if not is_right(one)], [])
 
-    def attributes(self, execution, kind):
-        """The attributes of the first event of a type."""
-        kind, found = f"EVENT_TYPE_{kind}", self.client.history(execution)
-        return next((event.get(attributes_name(kind[11:]).replace("Command", "Event"), {}) for event in found if event["eventType"] == kind), {})
+    def note_task(self, result):
+        """Notes with which event a task begins."""
+        task = self.client.messages.PollWorkflowTaskQueueResponse.FromString(result or b"")
+        self.begun[task.task_token] = task.started_event_id
+        return result
+
+    def note_answer(self, call):
+        """Notes what the answer to a task, which takes a while, gives to its queries."""
+        answer = self.client.messages.RespondWorkflowTaskCompletedRequest.FromString(call.request)
+        found = [one.answer.payloads[0].data.decode() for one in answer.query_results.values() if one.answer.payloads]
+        self.beside[answer.task_token] = [one for one in found if one in STATES]
+        return self.slow(0.3)(call)
+
+    def see_states(self, execution):
+        """The states that were given with tasks are those after the signals of their tasks."""
+        types, seen = self.types(execution), self.begun.keys() & self.beside.keys()
+        for token in seen:
+            signals = types[: self.begun[token]].count("WORKFLOW_EXECUTION_SIGNALED")
+            self.see(f"the states after {signals} signals", [one for one in self.beside[token] if one != STATES[signals % 2]], [])
+        self.see("queries for the state came with a task", any(self.beside[token] for token in seen), True)
+
+    # What a server makes of what is sent.
 
     def payloads_of_a_codec(self):
         """A payload of a codec goes through a table with all its metadata, and the header of the start to an activity. That one is of
@@ -526,14 +610,25 @@ class Trouble:
         header = header_of(self.client)
         execution = self.start("Table", table_of(HANDS_ON), coded=[CODED], header=header)
         self.are_closed([execution])
-        coded = {"payloads": self.attributes(execution, "WORKFLOW_EXECUTION_STARTED")["input"]["payloads"][1:]}
-        self.see("the metadata", "encryption-key-id" in coded["payloads"][0]["metadata"], True)
+        coded = self.in_json(CODED)
         scheduled = self.attributes(execution, "ACTIVITY_TASK_SCHEDULED")
         self.see("the input of an activity", scheduled.get("input"), coded)
         self.see("its header", scheduled.get("header"), self.client.json.MessageToDict(header))
-        self.see("the result of the run", self.attributes(execution, "WORKFLOW_EXECUTION_COMPLETED").get("result"), coded)
+        self.see("the result of the run", self.result(execution), coded)
         failure = self.attributes(execution, "ACTIVITY_TASK_FAILED").get("failure", {})
         self.see("the failure", failure.get("applicationFailureInfo"), {"type": "NotFoundError", "nonRetryable": True})
+
+    def children_of_a_codec(self):
+        """A child workflow gets payloads of a codec with all their metadata, and the header of the start. Its result comes back."""
+        header, name = header_of(self.client), f"{self.queue}-child"
+        execution = self.start("Table", has_child(name), table_of(GIVES_BACK), coded=[CODED, TYPED], header=header)
+        self.are_closed([execution])
+        ids = self.attributes(execution, "CHILD_WORKFLOW_EXECUTION_STARTED").get("workflowExecution", {})
+        begun = self.attributes({"workflow_id": name, "run_id": ids.get("runId", "")}, "WORKFLOW_EXECUTION_STARTED")
+        self.see("the header of a child", begun.get("header"), self.client.json.MessageToDict(header))
+        coded = self.in_json(CODED, TYPED)
+        self.see("the input of a child", begun.get("input", {}).get("payloads", [])[1:], coded["payloads"])
+        self.see("the result of its parent", self.result(execution), coded)
 
     def discarded_tasks(self):
         """An update, which no program here knows, gives an idle run a task that the server discards: the run goes on without it."""
@@ -574,54 +669,99 @@ class Trouble:
             self.client.terminate(execution)
 
 
-class Policies:
-    """The program with policies: those of an activity that beats, and one that only a server can refuse."""
+class Policies(Part):
+    """The program with policies: activities that this script serves, or the program of orders, and a policy that only a server can
+    refuse."""
 
     def __init__(self, trial):
-        self.trial, self.client, self.queue, self.wrong = trial, trial.client, trial.queue + "-policies", []
-        self.room = tempfile.TemporaryDirectory()
+        super().__init__(trial, "with policies", "-policies")
+        asked, self.room = trial.asked, tempfile.TemporaryDirectory()
         file = Path(self.room.name, "policies.toml")
-        file.write_text(POLICIES.format(trial.queue + "-orders", LONG_NAME))
-        self.worker = Worker(trial.asked, trial.address, trial.asked.program, self.queue, more=["--policies", str(file)])
-
-    def see(self, what, found, wanted):
-        if found != wanted:
-            self.wrong.append(f"with policies: {what}: {found!r}, not {wanted!r}")
+        file.write_text(POLICIES.format(trial.queue, LONG_NAME))
+        self.worker = Worker(asked, trial.address, asked.program, self.queue, more=["--policies", str(file), "--activity-attempts", "2"])
+        self.till = Worker(asked, trial.address, asked.orders, trial.queue + "-labels") if asked.orders else None
+        # A worker's calls have a connection of their own.
+        self.own = Client(trial.address, asked.namespace, channel_of(asked, trial.address), beside_of(asked))
 
     def run(self):
         """Tries them: what is wrong."""
         self.worker.start()
         try:
-            if self.trial.asked.orders:
-                self.print_labels(self.trial.services[1].worker)
+            self.keep_metadata()
+            if self.till:
+                self.resume_labels()
+                self.print_labels()
+                self.give_back()
             self.refuse()
         except Wrong as why:
-            self.wrong.append(f"with policies: {why}")
+            self.wrong.append(f"{self.name}: {why}")
         finally:
-            self.see("the status", self.worker.stop(), 0)
+            started = [worker for worker in (self.worker, self.till) if worker and worker.child]
+            self.see("the statuses", [worker.stop() for worker in started], [0] * len(started))
         return self.wrong
 
-    def start(self, kind, *values):
-        """Starts a run."""
-        workflow_id = f"{self.queue}-{kind.lower()}"
-        execution = self.client.start(kind, workflow_id, self.queue, payloads(*values), **with_memo(self.client))
-        self.trial.executions[workflow_id] = (self.trial.services[0], kind, execution)
-        return execution
+    def poll(self, queue):
+        """The next activity task of a Task Queue."""
+        until = time.monotonic() + TASK_SECONDS
+        while time.monotonic() < until:
+            task = self.call("PollActivityTaskQueue", TASK_SECONDS, task_queue={"name": queue, "kind": NORMAL})
+            if task and task.task_token:
+                return task
+        raise Wrong(f"no task of {queue} comes")
 
-    def print_labels(self, printer):
+    def call(self, method, seconds=CALL_SECONDS, **params):
+        """Makes a call of a worker."""
+        return self.own.call(method, seconds, identity=f"{self.queue}-script", **params)
+
+    def end(self, what, method, task, **params):
+        """Makes a call of a worker for a task, which has to be taken."""
+        self.see(what, self.call(method, task_token=task.task_token, **params) is not None, True)
+
+    def keep_metadata(self):
+        """An activity gets a payload of a codec with all its metadata, and the header of the run's start. Its result comes back with
+        the metadata that it has: also the data that it was given, under a key that has turned."""
+        header = header_of(self.client)
+        execution = self.start("Table", asks_for("Keep"), coded=[CODED], header=header)
+        task = self.poll(f"{self.trial.queue}-keep")
+        self.see("the input of an activity", [{"metadata": dict(one.metadata), "data": one.data} for one in task.input.payloads], [CODED])
+        self.see("its header", self.client.json.MessageToDict(task.header), self.client.json.MessageToDict(header))
+        self.end("the result of an activity", RESULT, task, result={"payloads": [TURNED, TYPED]})
+        self.are_closed([execution])
+        self.see("the result of the run", self.result(execution), self.in_json(TURNED, TYPED))
+
+    def resume_labels(self):
+        """The first attempt, which is served here, tells that all labels are printed, and fails. The handler of the second reads that:
+        it prints none, so it sends no heartbeat."""
+        execution = self.start("Table", asks_for("PrintLabels"), *range(LABELS))
+        task = self.poll(self.trial.queue + "-labels")
+        self.end("a heartbeat", HEARTBEAT, task, details=payloads(LABELS))
+        failure = self.client.json.ParseDict(LATER, self.client.messages.RespondActivityTaskFailedRequest().failure)
+        self.end("a failure", "RespondActivityTaskFailed", task, failure=failure)
+        self.till.start()
+        self.are_closed([execution])
+        self.see("the result of the second attempt", self.result(execution), self.in_json(*payloads(LABELS)["payloads"]))
+        self.see("its heartbeats", self.till.calls_of(HEARTBEAT), 0)
+
+    def print_labels(self):
         """A handler that prints many labels at once, and tells of each, sends few heartbeats, but some."""
-        before = printer.calls_of(HEARTBEAT)
-        execution = self.start("Table", table_of(PRINTS), *range(LABELS))
-        soon("the labels are printed", lambda: not self.client.is_open(execution), TASK_SECONDS)
-        self.see("the last event", self.client.history(execution)[-1]["eventType"], "EVENT_TYPE_WORKFLOW_EXECUTION_COMPLETED")
-        count = printer.calls_of(HEARTBEAT) - before
+        before = self.till.calls_of(HEARTBEAT)
+        execution = self.start("Table", asks_for("PrintLabels"), *range(LABELS))
+        self.are_closed([execution])
+        self.see("the last event", self.types(execution)[-1], "WORKFLOW_EXECUTION_COMPLETED")
+        count = self.till.calls_of(HEARTBEAT) - before
         self.see(f"{count:.0f} heartbeats of {LABELS} labels are some, and few", 0 < count <= LABELS / 10, True)
+
+    def give_back(self):
+        """A handler whose result is its input gives payloads of a codec with all their metadata."""
+        execution = self.start("Table", asks_for("ChargeCard"), coded=[CODED, TYPED])
+        self.are_closed([execution])
+        self.see("the result of a handler", self.result(execution), self.in_json(CODED, TYPED))
 
     def refuse(self):
         """An activity for a Task Queue whose name is too long: the server refuses the answer, and that is told with the run."""
         execution = self.start("Greet", "Ada")
         line = rf"{re.escape(execution['workflow_id'])} {execution['run_id']}: .+ \(code {INVALID}\)"
-        soon("the refusal is told", lambda: re.search(line, self.worker.report()), TASK_SECONDS)
+        self.wait("the refusal is told", lambda: re.search(line, self.worker.report()))
         self.client.terminate(execution)
 
 
@@ -679,7 +819,10 @@ class Trial:
         return any(name in event for event in events for name in OPENINGS)
 
     def ask(self, are_closed=False):
-        """Asks the runs of some types for what they answer, and all others for what they don't know."""
+        """Asks a run of each type for what a Web UI asks for, and where each run is to be asked, those of some types for what they
+        answer, and all others for what they don't know."""
+        for kind, workflow_id in {kind: workflow_id for workflow_id, (_, kind, _) in self.executions.items()}.items():
+            self.ask_reserved(kind, {"workflow_id": workflow_id})
         if not self.asked.queries:
             return
         for workflow_id, (_, kind, execution) in self.executions.items():
@@ -688,15 +831,11 @@ class Trial:
             if not any(one in given for one in (right[-1:] if are_closed else right)):
                 self.wrong.append(f"the query {name} of {workflow_id} gives {given}")
             self.done["queries"] += 1
-        for kind, workflow_id in {kind: workflow_id for workflow_id, (_, kind, _) in self.executions.items()}.items():
-            self.ask_reserved(kind, {"workflow_id": workflow_id})
 
     def ask_reserved(self, kind, execution):
         """Asks a run for what a Web UI asks for."""
         told, trace = (self.client.query(execution, name) for name in (METADATA, TRACE))
-        found = json.loads(told)["definition"] if told.startswith("{") else {}
-        names = [QUERIES[kind][0]] if kind in QUERIES else []
-        if found.get("type") != kind or [one["name"] for one in found.get("queryDefinitions", [])] != names:
+        if not tells_of(told, kind, [QUERIES[kind][0]] if kind in QUERIES else []):
             self.wrong.append(f"the query {METADATA} of a {kind} gives {told}")
         if NO_TRACE not in trace:
             self.wrong.append(f"the query {TRACE} of a {kind} gives {trace}")
@@ -724,6 +863,20 @@ class Trial:
     def try_trouble(self):
         """Tries the program behind a proxy that makes trouble, by runs that are some of the samples then."""
         self.wrong += Trouble(self).run()
+
+    def try_nowhere(self):
+        """Tries the program in a namespace that is not there: it ends by itself, and says that it polls no more."""
+        nowhere = argparse.Namespace(**{**vars(self.asked), "namespace": f"no-{uuid.uuid4().hex}"})
+        worker = Worker(nowhere, self.address, self.asked.program, self.queue, [*options_of(nowhere), "--poll-grace", "2"])
+        worker.start()
+        try:
+            status = worker.child.wait(TASK_SECONDS)
+        except subprocess.TimeoutExpired:
+            status = None
+        finally:
+            worker.stop()
+        if status != 1 or not re.search(rf"{TASK} of .*; not made again \(code ({NOT_FOUND}|{DENIED})\)", worker.report()):
+            self.wrong.append(f"in a namespace that is not there: status {status}: {worker.report()[-500:]}")
 
     def open_ones(self):
         """The types and the executions of the runs that are open: of a run that was continued as new, the last one."""
@@ -764,7 +917,9 @@ class Trial:
             self.ask()
             self.wait()
             self.ask(are_closed=True)
+            self.wrong += self.services[0].worker.faults_of_pages(*METRICS_OF_CLOSED)
             self.try_alone()
+            self.try_nowhere()
             self.try_trouble()
             self.try_policies()
             self.say(", ".join(f"{count} {what}" for what, count in self.done.items()))
@@ -813,7 +968,7 @@ class Trial:
                 yield workflow_id, events
                 yield from self.continuations(workflow_id, execution, events)
                 for number, child in enumerate((event[CHILD] for event in events if CHILD in event), 1):
-                    if child["workflowType"]["name"] in service.types:
+                    if child["workflowType"]["name"] in (*service.types, "Table"):
                         ids = child["workflowExecution"]
                         found = {"workflow_id": ids["workflowId"], "run_id": ids["runId"]}
                         yield f"{workflow_id}-child-{number}", self.client.history(found)
@@ -927,7 +1082,7 @@ def main():
     if asked.stand_in:
         support.use_trimmed()
         asked.task_queue = asked.task_queue or "trial"
-        stand_in = StandIn(asked, [asked.task_queue + end for end in ("", "-orders", "-bridge", "-trouble", "-policies")])
+        stand_in = StandIn(asked, [asked.task_queue + end for end in QUEUES])
     runs, closed, wrong = try_all(asked, stand_in.address if stand_in else asked.address)
     wrong += stand_in.stop() if stand_in else []
     for what in wrong:

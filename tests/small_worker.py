@@ -256,6 +256,8 @@ class Worker:
                 self.tell(task, error)
             if error is None and self.sticky and "resetHistoryEventId" not in result:
                 self.cached[key] = events
+                if len(self.cached) > self.options.cache:
+                    del self.cached[next(iter(self.cached))]
             again()
 
         self.call("RespondWorkflowTaskCompleted", params, then)
@@ -273,7 +275,9 @@ class Worker:
         kind = query["queryType"]
         if kind == "__temporal_workflow_metadata":
             known = getattr(course.program, "known", "state")
-            return True, {"definition": {"queryDefinitions": [{"name": known}] if known != "none" else [], "type": course.kind}}
+            queries, signals = [known] if known != "none" else [], getattr(course.program, "signals", ())
+            named = {f"{what}Definitions": [{"name": name} for name in names] for what, names in (("query", queries), ("signal", signals))}
+            return True, {"definition": {**named, "type": course.kind}}
         if kind.startswith("__"):
             return built_in(kind)
         is_answered, given = course.program.query(kind, payloads_in(query, "queryArgs"))

@@ -84,12 +84,15 @@ class Worker:
         return ended(self.child, self.said, status, within)
 
     def stop_after_losses(self, within=20.0):
-        """Tells it to end: the lines of the answers and tasks that it has lost. Its status is 1 if there are some, and else 0."""
+        """Tells it to end: the lines of the answers and tasks that it has lost. Its status is 1 if there are some, and else 0, and it
+        counts as many answers as refused as it tells to be lost."""
         self.child.terminate()
         self.child.wait(within)
         status = self.child.returncode
-        lost = [line for line in lines_of(self.end(status)) if re.search("; (the answer is lost|its task is given up), ", line)]
+        said = self.end(status)
+        lost = [line for line in lines_of(said) if re.search("; (the answer is lost|its task is given up), ", line)]
         same(f"status after {lost}", status, int(lost != []))
+        same(f"answers that are lost, by {said!r}", counts_in(said)["refused"], sum("; the answer is lost, " in line for line in lost))
         return lost
 
 
@@ -457,6 +460,23 @@ def server_away_for_long(seconds=12):
         room.wait(run)
         for line in lines_of(worker.stop()):
             has("line", line, "; made again (code 14)")
+
+
+def answer_lost_while_away(seconds=12):
+    """The server is away for longer than the answer to a workflow task is tried: the answer is told to be lost, with its run, and the
+    task comes again."""
+    with Room() as room:
+
+        def leave(call):
+            room.way.leave(seconds)
+            return None, (UNAVAILABLE, "away")
+
+        room.plan.add(ANSWER, leave, times=1)
+        worker, run = Worker(room, "--workers", "4"), room.start("Nap")
+        room.wait(run, within=60)
+        (lost,) = worker.stop_after_losses()
+        what = rf"{ANSWER}: .*, tried for \d+ s; the answer is lost, and its task comes again \(code {UNAVAILABLE}\)"
+        same(f"the line {lost!r}", bool(re.fullmatch(re.escape(told_of(run, "")) + what, lost)), True)
 
 
 def connections_that_end(age=0.5, grace=0.3, seconds=2.0):
@@ -858,6 +878,7 @@ LONG = [
     answers_that_hang,
     five_megabytes,
     server_away_again_and_again,
+    answer_lost_while_away,
     connections_that_end_for_long,
     server_that_forgets,
     shutdowns_with_answers_that_fail,
