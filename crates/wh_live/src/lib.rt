@@ -8,6 +8,7 @@ mod fetching;
 mod journals;
 pub mod laws;
 mod live_source;
+mod numbers;
 mod polling;
 mod queries;
 mod query_handler;

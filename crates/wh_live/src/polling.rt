@@ -22,6 +22,7 @@ ghost use Rattle.wh_replay.specs.Runs.{follows};
 use crate::answering::fail_unreadable;
 use crate::fetching::append_copies;
 use crate::journals::Journal;
+use crate::numbers::fault_in_history;
 use crate::queries::hand_query_on;
 use crate::tasks::{Brought, OpenTask};
 use crate::texts::{PollWords, lost_text};
@@ -129,10 +130,13 @@ fn read_task<L: Connection>(
 {
     match read_history(client.allocator(), members) {
         Ok(events) => Ok(Brought::Task(task_pair(client.allocator(), task, run, events)?)),
-        Err(AskFault::History(fault)) => match fail_unreadable(client, &task, &fault) {
-            Receipt::NoMemory => Err(AskFault::OutOfMemory),
-            _ => Ok(Brought::Settled),
-        },
+        Err(AskFault::History(fault)) => {
+            let fault = fault_in_history(fault, members);
+            match fail_unreadable(client, &task, &fault) {
+                Receipt::NoMemory => Err(AskFault::OutOfMemory),
+                _ => Ok(Brought::Settled),
+            }
+        }
         Err(fault) => give_up(client, &task, fault),
     }
 }
