@@ -1,5 +1,5 @@
 -- Polls after which no later one can succeed.
-use Rattle.std.proofs.Common.{◌≡◌, ◌∙◌, ℕ, List, Bool, true, Option, Result, Ok, Err, inl, inr, refl, subst, sym, true≢false}
+use Rattle.std.proofs.Common.{◌≡◌, ◌∙◌, ℕ, List, Bool, Option, Result, Ok, Err, inl, inr, refl, subst, sym, true≢false}
 use Rattle.std.specs.Prelude.{IfErr, IsErr, codes}
 use Rattle.serde_json.specs.Data.{Data}
 use Rattle.wh_client.proofs.Statuses.{polls_by_code}

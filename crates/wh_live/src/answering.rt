@@ -10,7 +10,7 @@ ghost use Rattle.wh_messages.specs.declared.request.FailedCause.TheVariants.{Too
 ghost use Rattle.wh_tasks.specs.declared.source.Sent.TheVariants.{Workflow as OfWorkflow};
 ghost use Rattle.wh_tasks.specs.Source.{FailsOnly};
 ghost use Rattle.wh_live.specs.Answers.{cause_of, receipt_of};
-ghost use Rattle.wh_live.specs.Private.Answering.{AnswersOpen, CompletesTask, CompletesWith, FailsTask, HasAnswer, IsAnswerReceipt, IsKeptBack, IsOpenReceipt, IsReplaced, Settles, CountsFault, IsFailed, IsFailedInstead, is_reported, receipt_of_sent, reports_refusal, run_use};
+ghost use Rattle.wh_live.specs.Private.Answering.{AnswersOpen, CompletesTask, CompletesWith, FailsTask, HasAnswer, IsAnswerReceipt, IsOpenReceipt, IsReplaced, Settles, CountsFault, IsFailed, IsFailedInstead, WithholdsLater, is_reported, receipt_of_sent, reports_refusal, run_use};
 ghost use Rattle.wh_live.specs.Private.Counting.{settled};
 ghost use Rattle.wh_live.specs.Private.Receipts.{IsRequestReceipt};
 
@@ -194,7 +194,7 @@ fn fail<L: Connection>(
 
 /// Fails a workflow task because of a fault of replay.
 fn fail_replay<L: Connection>(client: &Client<'_, L>, task: &OpenTask, fault: &Fault) -> Receipt
-    ensures later { result ≡ Withheld → 1 < task.now.attempt }
+    ensures later { result ≢ NoMemory → (result ≡ Withheld) ↔ (1 < task.now.attempt) }
     ensures sent { result ≢ Withheld →
         FailsTask L.gives L.fails client.now.options.now.names task.now.token (cause_of fault.now) result }
     ensures kept { result ≢ Replaced }
@@ -344,7 +344,7 @@ fn respond<L: Connection, Q: QueryHandler>(
     events: &[Event],
 ) -> Receipt
     requires { Q.ready query_handler.now }
-    ensures kept_back { result ≡ Withheld → IsKeptBack task.now answer.now }
+    ensures kept_back { WithholdsLater task.now answer.now result }
     ensures received { result ≢ Withheld → HasAnswer (Q.gives_results query_handler.now)
         L.gives L.fails client.now.options.now task.now answer.now events.now result }
     ensures replaced { result ≡ Replaced →

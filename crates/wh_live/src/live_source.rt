@@ -45,8 +45,8 @@ fn cacheable_task(run: RunUse, name: TaskName) -> Option<TaskName>
 /// It has one task at a time: a task that is not answered before the next poll is left to time out.
 /// A query that comes alone is passed, during the poll, to what answers queries beside the workers.
 /// One that comes with a task is answered with it, by the handler of queries. If the server does not
-/// accept so large an answer, it is sent again without the results, and the server asks such queries
-/// again alone.
+/// accept so large an answer, it is sent again without the results; so it is sent at once if there
+/// was no memory for them. The server asks such queries again alone.
 #[derive(Drop)]
 pub struct LiveSource<'a, L: Connection, Q: QueryHandler> {
     client: Client<'a, L>,

@@ -9,7 +9,7 @@ use wh_events::{Event, OutOfMemory};
 ///
 /// An implementation says which results it may give. It may ask for something before it is called.
 pub trait QueryHandler {
-    ghost use Rattle.std.specs.Prelude.{IfOk, List};
+    ghost use Rattle.std.specs.Prelude.{List, MatchResult, None, Option, Some};
     ghost use Rattle.serde_json.specs.Data.{Members};
     ghost use Rattle.serde_json.specs.View.{members_view};
     ghost use Rattle.wh_events.specs.declared.event.Event.{Event};
@@ -17,8 +17,9 @@ pub trait QueryHandler {
     /// What has to hold before it is called. No call changes it.
     ghost ready: { Self → Type 0 };
 
-    /// Which results it may give to the queries of a task, by the events of its run.
-    ghost gives_results: { Self → List Event → Members → Members → Type 0 };
+    /// Which results it may give to the queries of a task, by the events of its run. `None` says that
+    /// there was no memory for them.
+    ghost gives_results: { Self → List Event → Members → Option Members → Type 0 };
 
     /// Returns the results of the queries that came with a task of a run, each under its query's id
     /// (Temporal's `WorkflowQueryResult`). The events are those from the first one of the run up to
@@ -30,6 +31,8 @@ pub trait QueryHandler {
         queries: &Members,
     ) -> Result<Members, OutOfMemory>
         requires { ready self.now }
-        ensures { IfOk result (λ results. gives_results self.now events.now
-            (members_view queries.now.entries) (members_view results.entries)) };
+        ensures { MatchResult result
+            (λ results. gives_results self.now events.now (members_view queries.now.entries)
+            (Some (members_view results.entries)))
+            (λ _. gives_results self.now events.now (members_view queries.now.entries) None) };
 }

@@ -18,6 +18,10 @@ use wh_commands::CarriedOver;
 use wh_events::Event;
 use wh_workflow::Command;
 
+/// What is reported if there is no memory for the results of a task's queries.
+const WITHOUT_RESULTS: &str =
+    "out of memory; its completion is sent without the results of queries";
+
 /// Reports that the completion of a task is sent again without the results of its queries.
 fn report_oversized<L: Connection>(client: &Client<'_, L>, task: &OpenTask, fault: &AskFault) {
     if let Ok(text) = oversized_text(client.allocator(), fault) {
@@ -53,7 +57,8 @@ fn send_answered<L: Connection>(
 }
 
 /// Completes a workflow task with commands, after the events that they were replayed from, with the
-/// results of the queries that came with it, and with what its run carries over.
+/// results of the queries that came with it, and with what its run carries over. Without memory for
+/// the results the task is completed without them: the server asks such queries again alone.
 fn complete_queried<L: Connection, Q: QueryHandler>(
     client: &Client<'_, L>,
     query_handler: &Q,
@@ -71,7 +76,9 @@ fn complete_queried<L: Connection, Q: QueryHandler>(
 {
     let alloc = client.allocator();
     let Ok(results) = query_handler.answer_queries(alloc, events, &task.queries) else {
-        return Receipt::NoMemory;
+        report_of(client, task, WITHOUT_RESULTS);
+        let none = Map::new(alloc);
+        return complete_with(client, task, commands, events, none, carried);
     };
     match client.completion_request(&task.token, commands, events, results, carried) {
         Ok(request) => send_answered(client, task, request, commands, events, carried),

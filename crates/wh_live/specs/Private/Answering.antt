@@ -54,9 +54,9 @@ abbrev pub CompletesWith : Gives → Fails → LiveOptions → OpenTask → List
 CompletesWith gives fails options task commands events results carried receipt = IsCompletion gives fails
     (workflow_completed options.names task.token commands events results options.sticky options.policies carried) receipt
 
--- which results the queries of a task may get, by the events of its run
+-- which results the queries of a task may get, by the events of its run; none if there was no memory for them
 abbrev pub GivesResults : Type 1
-GivesResults = List Event → Members → Members → Type 0
+GivesResults = List Event → Members → Option Members → Type 0
 
 -- what became of a call with results of queries; or it was too large, and this became of the one without them
 abbrev pub IsReceiptOrSmaller : Gives → Fails → List ℕ → Data → (Receipt → Type 0) → Receipt → Type 0
@@ -75,16 +75,24 @@ IsCompletionOrSmaller gives fails (Err fault) smaller receipt = IsReplaced recei
 pub record HasAnsweredQueries (gives_results : GivesResults) (gives : Gives) (fails : Fails) (options : LiveOptions)
     (task : OpenTask) (commands : List Command) (events : List Event) (carried : Carried) (receipt : Receipt) : Type 0 where
   pub results : Members
-  pub has : gives_results events (members_view task.queries.entries) results
+  pub has : gives_results events (members_view task.queries.entries) (Some results)
   pub became : IsCompletionOrSmaller gives fails
       (workflow_completed options.names task.token commands events results options.sticky options.policies carried)
       (CompletesWith gives fails options task commands events no_members carried) receipt
 
--- the same, unless there was no memory for the results
+-- what became of a completion without results, since there was no memory for those of the task's queries
+abbrev pub CompletesWithoutResults : GivesResults → Gives → Fails → LiveOptions → OpenTask → List Command → List Event
+    → Carried → Receipt → Type 0
+CompletesWithoutResults gives_results gives fails options task commands events carried receipt =
+    gives_results events (members_view task.queries.entries) None
+    × CompletesWith gives fails options task commands events no_members carried receipt
+
+-- what became of the completion of the task with these commands, which has queries: with their results, or without them
 abbrev pub CompletesQueried : GivesResults → Gives → Fails → LiveOptions → OpenTask → List Command → List Event
     → Carried → Receipt → Type 0
 CompletesQueried gives_results gives fails options task commands events carried receipt =
-    HasAnsweredQueries gives_results gives fails options task commands events carried receipt ⊎ (receipt ≡ NoMemory)
+    HasAnsweredQueries gives_results gives fails options task commands events carried receipt
+    ⊎ CompletesWithoutResults gives_results gives fails options task commands events carried receipt
 
 -- the first if there are no queries, and the second if there are some
 abbrev pub ByQueries : Members → Type 0 → Type 0 → Type 0
@@ -144,15 +152,16 @@ HasAnswer gives_results gives fails options task (Complete commands) events rece
 HasAnswer gives_results gives fails options task (Fail fault) events receipt =
     FailsTask gives fails options.names task.token (cause_of fault) receipt
 
--- only a failure is withheld, and not that of the first attempt
-abbrev pub IsKeptBack : OpenTask → Answer → Type 0
-IsKeptBack task (Complete commands) = ⊥
-IsKeptBack task (Fail fault) = 1 < task.attempt
+-- a completion is never withheld; a failure is exactly if its attempt is not the first, unless there was no memory
+abbrev pub WithholdsLater : OpenTask → Answer → Receipt → Type 0
+WithholdsLater task (Complete commands) receipt = receipt ≢ Withheld
+WithholdsLater task (Fail fault) receipt = receipt ≢ NoMemory → (receipt ≡ Withheld) ↔ (1 < task.attempt)
 
--- this answer to the task is kept back, or else this became of it; it is replaced only if the task was failed
+-- this became of this answer to the task, by its attempt; unless it was withheld it was sent, and it is replaced only if
+-- the task was failed
 pub record IsAnswerReceipt (gives_results : GivesResults) (gives : Gives) (fails : Fails) (options : LiveOptions)
     (answer : Answer) (events : List Event) (task : OpenTask) (receipt : Receipt) : Type 0 where
-  pub kept_back : receipt ≡ Withheld → IsKeptBack task answer
+  pub kept_back : WithholdsLater task answer receipt
   pub sent : receipt ≢ Withheld → HasAnswer gives_results gives fails options task answer events receipt
   pub replaced : receipt ≡ Replaced → IsFailedInstead gives fails options.names task
 
