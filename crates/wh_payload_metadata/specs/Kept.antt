@@ -1,5 +1,7 @@
 -- What is kept of runs.
-use Rattle.std.specs.Prelude.{ℕ, List, string_bytes, bytes_eq, nat_lt, Option, Some, None, option_map, if◌then◌else◌}
+use Rattle.std.specs.Prelude.{ℕ, List, [], ◌∷◌, Bool, false, ◌||◌, string_bytes, bytes_eq, nat_lt, Option, Some, None, option_map, if◌then◌else◌}
+use Rattle.std.specs.declared.alloc.Global.{Global}
+use Rattle.std.specs.declared.string.String.{String}
 use Rattle.std.specs.Map.{lookup}
 use Rattle.serde_json.specs.Data.{Data, Members, no_members}
 use Rattle.serde_json.specs.Events.{members_len}
@@ -9,6 +11,10 @@ use Rattle.wh_payload_metadata.specs.Seen.{all_noted, metadata_seen, header_seen
 use Rattle.wh_payload_metadata.specs.Handed.{handed_on}
 use Rattle.wh_payload_metadata.specs.declared.kept.KeptRuns.{KeptRuns}
 use Rattle.wh_payload_metadata.specs.declared.open_tasks.OpenTasks.{OpenTasks}
+
+-- a text that is held
+abbrev Text : Type 0
+Text = String Global
 
 -- the most payloads of a run with which more are still noted
 abbrev pub most_payloads : ℕ
@@ -30,6 +36,11 @@ header_in (Some seen) = header_seen seen
 abbrev pub place_of : OpenTasks → List ℕ → Option (List ℕ)
 place_of tasks token =
     option_map (λ place. string_bytes place) (lookup (λ key. bytes_eq token (string_bytes key)) tasks.tasks.entries)
+
+-- whether one of these tasks, each a token and a place, has this place
+abbrev pub leads_to : List ℕ → List (Text × Text) → Bool
+leads_to place [] = false
+leads_to place (task ∷ rest) = bytes_eq (string_bytes task.1) place || leads_to place rest
 
 -- the metadata of payloads that were seen of a run
 abbrev pub kept_metadata : KeptRuns → List ℕ → Members
