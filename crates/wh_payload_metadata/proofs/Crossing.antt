@@ -88,6 +88,12 @@ KeepingCalls-sync κ C c = declared_sync (KeepingCalls.the_type κ C) (
   as_row_sync (row_field (ShrRef κ.mir κ.lft C)) (shr_sync κ.mir κ.lft C c),
   (
     atomic_bool.the_sync,
-    (mutex.the_sync KeptRuns.the_row KeptRuns-send, (mutex.the_sync OpenTasks.the_row OpenTasks-send, tt)),
+    (
+      mutex.the_sync KeptRuns.the_row KeptRuns-send,
+      (
+        mutex.the_sync KeptRuns.the_row KeptRuns-send,
+        (mutex.the_sync OpenTasks.the_row OpenTasks-send, (mutex.the_sync OpenTasks.the_row OpenTasks-send, tt)),
+      ),
+    ),
   ),
 )

@@ -3,12 +3,10 @@ use Rattle.std.proofs.Common.{◌≡◌, ℕ, List, [], ◌∷◌, Bool, true, f
 use Rattle.std.proofs.lemmas.Bool.{false≢true}
 use Rattle.std.specs.Cmp.Lexicographic.{slice_cmp}
 use Rattle.std.specs.Ordering.{match_ordering}
-use Rattle.std.specs.Prelude.{nat_lt}
 use Rattle.serde_json.specs.Data.{Data, Members, no_members, member, put}
-use Rattle.serde_json.specs.Events.{members_len}
 use Rattle.wh_payload_metadata.specs.Payloads.{payloads_of, data_of, metadata_of, have_more}
 use Rattle.wh_payload_metadata.specs.Seen.{noted_metadata, noted, all_noted, header_after, is_nothing}
-use Rattle.wh_payload_metadata.specs.Kept.{most_payloads, metadata_after}
+use Rattle.wh_payload_metadata.specs.Kept.{metadata_after}
 
 abbrev has_member : Members → Bool
 has_member no_members = false
@@ -51,13 +49,9 @@ pub quiet : (ps : List Data) (seen : Members) → all_noted ps no_members ≡ no
 quiet [] seen none = refl
 quiet (p ∷ ps) seen none = quiet_at (metadata_of p) (data_of p) ps seen (quiet ps seen) none
 
-quiet_below : (b : Bool) (ps : List Data) (seen : Members) → all_noted ps no_members ≡ no_members → cond b (all_noted ps seen) seen ≡ seen
-quiet_below true ps seen none = quiet ps seen none
-quiet_below false ps seen none = refl
-
 -- what comes without something to note leaves the metadata that were seen
 pub quiet_after : (came : Data) (seen : Members) → metadata_after came no_members ≡ no_members → metadata_after came seen ≡ seen
-quiet_after came seen none = quiet_below (nat_lt (members_len seen) most_payloads) (payloads_of came) seen none
+quiet_after came seen none = quiet (payloads_of came) seen none
 
 -- where nothing was seen after a header came, none came
 pub no_header : (came before : Option Data) (metadata : Members) → is_nothing metadata (header_after came None) ≡ true → header_after came before ≡ before

@@ -1,8 +1,9 @@
 -- What is kept of runs.
-use Rattle.std.specs.Prelude.{ℕ, List, string_bytes, bytes_eq, nat_lt, Option, Some, None, option_map, if◌then◌else◌}
+use Rattle.std.specs.Prelude.{ℕ, List, [], ◌∷◌, Bool, false, ◌||◌, string_bytes, bytes_eq, Option, Some, None, option_map}
+use Rattle.std.specs.declared.alloc.Global.{Global}
+use Rattle.std.specs.declared.string.String.{String}
 use Rattle.std.specs.Map.{lookup}
 use Rattle.serde_json.specs.Data.{Data, Members, no_members}
-use Rattle.serde_json.specs.Events.{members_len}
 use Rattle.wh_payload_metadata.specs.declared.seen.SeenPayloads.{SeenPayloads}
 use Rattle.wh_payload_metadata.specs.Payloads.{payloads_of}
 use Rattle.wh_payload_metadata.specs.Seen.{all_noted, metadata_seen, header_seen}
@@ -10,9 +11,9 @@ use Rattle.wh_payload_metadata.specs.Handed.{handed_on}
 use Rattle.wh_payload_metadata.specs.declared.kept.KeptRuns.{KeptRuns}
 use Rattle.wh_payload_metadata.specs.declared.open_tasks.OpenTasks.{OpenTasks}
 
--- the most payloads of a run with which more are still noted
-abbrev pub most_payloads : ℕ
-most_payloads = 10000
+-- a text that is held
+abbrev Text : Type 0
+Text = String Global
 
 -- what was seen of the run of this name, if it is kept
 abbrev pub kept_run : KeptRuns → List ℕ → Option SeenPayloads
@@ -31,6 +32,11 @@ abbrev pub place_of : OpenTasks → List ℕ → Option (List ℕ)
 place_of tasks token =
     option_map (λ place. string_bytes place) (lookup (λ key. bytes_eq token (string_bytes key)) tasks.tasks.entries)
 
+-- whether one of these tasks, each a token and a place, has this place
+abbrev pub leads_to : List ℕ → List (Text × Text) → Bool
+leads_to place [] = false
+leads_to place (task ∷ rest) = bytes_eq (string_bytes task.1) place || leads_to place rest
+
 -- the metadata of payloads that were seen of a run
 abbrev pub kept_metadata : KeptRuns → List ℕ → Members
 kept_metadata kept name = metadata_in (kept_run kept name)
@@ -39,9 +45,9 @@ kept_metadata kept name = metadata_in (kept_run kept name)
 abbrev pub kept_header : KeptRuns → List ℕ → Option Data
 kept_header kept name = header_in (kept_run kept name)
 
--- the metadata of a run after something came, whose payloads are noted unless there are too many
+-- the metadata of a run after something came, all of whose payloads are noted
 abbrev pub metadata_after : Data → Members → Members
-metadata_after came seen = if nat_lt (members_len seen) most_payloads then all_noted (payloads_of came) seen else seen
+metadata_after came seen = all_noted (payloads_of came) seen
 
 -- a request with what was seen of its run, if that is kept
 abbrev pub handed_by : Option SeenPayloads → Data → Data

@@ -1,5 +1,5 @@
 -- What calls of Temporal's WorkflowService say of runs and tasks.
-use Rattle.std.specs.Prelude.{ℕ, ◌-◌, List, [], ◌∷◌, length, slice_get, Bool, ◌||◌, bytes_eq, codes, Option, Some, nat_eq, option_and_then, if◌then◌else◌}
+use Rattle.std.specs.Prelude.{ℕ, ◌-◌, List, [], ◌∷◌, length, slice_get, Bool, ◌&&◌, ◌||◌, not, is_some, bytes_eq, codes, Option, Some, nat_eq, option_and_then, if◌then◌else◌}
 use Rattle.std.specs.List.{starts_with}
 use Rattle.serde_json.specs.Data.{Data}
 use Rattle.wh_json.specs.Fields.{field, at_path, text_of, list_in}
@@ -11,6 +11,14 @@ token_of d = text_of (field (codes "taskToken") (Some d))
 -- whether polls of this method bring activity tasks
 abbrev pub polls_activities : List ℕ → Bool
 polls_activities method = bytes_eq method (codes "PollActivityTaskQueue")
+
+-- whether a poll brought a query that came alone
+abbrev pub is_query : Data → Bool
+is_query polled = is_some (field (codes "query") (Some polled))
+
+-- whether a poll of this method brought a workflow task
+abbrev pub brings_workflow_task : List ℕ → Data → Bool
+brings_workflow_task method polled = not (polls_activities method) && not (is_query polled)
 
 -- the name under which what a poll brought is kept: the id of the run, and of an activity task its token
 abbrev pub polled_place : List ℕ → Data → List ℕ

@@ -2,7 +2,8 @@
 
 use crate::kept::{KeptRuns, note_first};
 use crate::messages::{
-    beats, closes_run, ends_place, fetched_run, fetches, polled_place, responds, token_of,
+    answers_query, beats, brings_workflow_task, closes_run, ends_place, fetched_run, fetches,
+    is_query, polled_place, responds, responds_to_activity, token_of,
 };
 use crate::open_tasks::OpenTasks;
 use serde_json::Value;
@@ -20,73 +21,119 @@ const SPARE_RUNS: usize = 1_000;
 /// the same run. A call for which there is no memory to do so fails with `OutOfMemory`: a payload
 /// without its metadata may be one that nobody can read.
 ///
-/// What comes is noted without a lock. As long as there was nothing to keep of any run, `runs` is not
-/// locked.
+/// What comes with workflow tasks is in `runs`, by the id of the run: those whose tasks came last, and
+/// nothing else takes their room. What comes with an activity task, by its token, or for queries that
+/// came alone, by the id of their run, is in `until_answered`, and is forgotten with the answer. What
+/// comes is noted without a lock. As long as there was nothing to keep, neither of both is locked.
 #[derive(Drop)]
 pub struct KeepingCalls<'a, C> {
     calls: &'a C,
     has_kept: AtomicBool,
     runs: Mutex<KeptRuns>,
+    until_answered: Mutex<KeptRuns>,
     tasks: Mutex<OpenTasks>,
+    queries: Mutex<OpenTasks>,
 }
 
 impl<'a, C: Caller> KeepingCalls<'a, C> {
     /// Returns calls over these calls, of a worker that caches at most so many runs. A thousand
-    /// runs more are kept, those that tasks came of last. `AllocError` if there was no memory.
+    /// runs more are kept, those that workflow tasks came of last, and as many activity tasks and
+    /// queries that are not answered. `AllocError` if there was no memory.
     pub fn new(calls: &'a C, cached: usize) -> Result<KeepingCalls<'a, C>, AllocError> {
         let most = NonZeroUsize::MIN
             .saturating_add(cached)
             .saturating_add(SPARE_RUNS);
         let runs = KeptRuns::new(calls.allocator(), most)?;
+        let until_answered = KeptRuns::new(calls.allocator(), most)?;
         let tasks = OpenTasks::new(calls.allocator(), most)?;
+        let queries = OpenTasks::new(calls.allocator(), most)?;
         Ok(KeepingCalls {
             calls,
             has_kept: AtomicBool::new(false),
             runs: Mutex::new(runs),
+            until_answered: Mutex::new(until_answered),
             tasks: Mutex::new(tasks),
+            queries: Mutex::new(queries),
         })
     }
 
-    /// Whether there may be something that is kept of some run.
+    /// Whether there may be something that is kept.
     fn has_kept(&self) -> bool {
         self.has_kept.load(Ordering::SeqCst)
     }
 
-    /// Keeps what came of a run, if there is something to keep.
-    fn keep<Q: Wait>(&self, rt: &Q, run: &str, came: &Value) -> Result<(), AllocError> {
+    /// Keeps what came of a run or a task among others, if there is something to keep.
+    fn keep<Q: Wait>(
+        &self,
+        rt: &Q,
+        kept: &Mutex<KeptRuns>,
+        place: &str,
+        came: &Value,
+    ) -> Result<(), AllocError> {
         let noted = note_first(self.calls.allocator(), came)?;
         if noted.is_empty() && !self.has_kept() {
             return Ok(());
         }
         self.has_kept.store(true, Ordering::SeqCst);
-        let displaced = self.runs.lock(rt).keep(run, came, noted)?;
+        let displaced = kept.lock(rt).keep(place, came, noted)?;
         drop(displaced);
         Ok(())
     }
 
-    /// A request of a task, with what is kept at its place.
+    /// A request of a task, with what is kept at its place. Of a query that came alone that is what
+    /// came for it, and what came with workflow tasks of its run.
     fn hand_on<Q: Wait>(&self, rt: &Q, place: &str, params: Value) -> Result<Value, AllocError> {
-        if self.has_kept() {
-            self.runs.lock(rt).hand_on(place, params)
-        } else {
-            Ok(params)
+        if !self.has_kept() {
+            return Ok(params);
         }
+        let params = self.until_answered.lock(rt).hand_on(place, params)?;
+        self.runs.lock(rt).hand_on(place, params)
     }
 
     /// Forgets what is kept at a place.
-    fn forget<Q: Wait>(&self, rt: &Q, place: &str) {
+    fn forget<Q: Wait>(&self, rt: &Q, kept: &Mutex<KeptRuns>, place: &str) {
         if self.has_kept() {
-            let seen = self.runs.lock(rt).forget(place);
+            let seen = kept.lock(rt).forget(place);
             drop(seen);
         }
     }
 
-    /// Notes the place of a task that a poll brought.
-    fn begin<Q: Wait>(&self, rt: &Q, token: &str, place: &str) -> Result<(), AllocError> {
+    /// Forgets what is kept for a task whose answer goes out, if nothing more comes of it.
+    fn end_place<Q: Wait>(&self, rt: &Q, method: &str, place: &str) {
+        if responds_to_activity(method) {
+            self.forget(rt, &self.until_answered, place);
+        } else if ends_place(method) {
+            self.forget(rt, &self.runs, place);
+        }
+    }
+
+    /// Notes the place of a task that a poll brought, or of a query.
+    fn begin<Q: Wait>(
+        &self,
+        rt: &Q,
+        open: &Mutex<OpenTasks>,
+        token: &str,
+        place: &str,
+    ) -> Result<(), AllocError> {
         let token = String::from_str(self.calls.allocator(), token)?;
         let place = String::from_str(self.calls.allocator(), place)?;
-        let displaced = self.tasks.lock(rt).begin(token, place)?;
+        let displaced = open.lock(rt).begin(token, place)?;
         drop(displaced);
+        Ok(())
+    }
+
+    /// Keeps a page of history for what it was asked for: the queries of the run that came alone, a
+    /// workflow task of it, or both.
+    fn keep_events<Q: Wait>(&self, rt: &Q, run: &str, page: &Value) -> Result<(), AllocError> {
+        let for_query = self.queries.lock(rt).has(run);
+        if !for_query {
+            return self.keep(rt, &self.runs, run, page);
+        }
+        self.keep(rt, &self.until_answered, run, page)?;
+        let for_task = self.tasks.lock(rt).has(run);
+        if for_task {
+            self.keep(rt, &self.runs, run, page)?;
+        }
         Ok(())
     }
 
@@ -98,7 +145,7 @@ impl<'a, C: Caller> KeepingCalls<'a, C> {
         response: &Result<(u64, CallResult), CallFault>,
     ) -> Result<(), AllocError> {
         match response {
-            Ok((_, CallResult::Given(page))) => self.keep(rt, run, page),
+            Ok((_, CallResult::Given(page))) => self.keep_events(rt, run, page),
             _ => Ok(()),
         }
     }
@@ -110,8 +157,16 @@ impl<'a, C: Caller> KeepingCalls<'a, C> {
             return Ok(());
         }
         let place = polled_place(method, task);
-        self.begin(rt, token, place)?;
-        self.keep(rt, place, task)
+        if is_query(task) {
+            self.begin(rt, &self.queries, token, place)?;
+        } else {
+            self.begin(rt, &self.tasks, token, place)?;
+        }
+        if brings_workflow_task(method, task) {
+            self.keep(rt, &self.runs, place, task)
+        } else {
+            self.keep(rt, &self.until_answered, place, task)
+        }
     }
 
     /// Keeps what a poll brought.
@@ -142,14 +197,16 @@ impl<'a, C: Caller> KeepingCalls<'a, C> {
         }
     }
 
-    /// The place of the task that a call answers, or that a heartbeat is of.
+    /// The place of the task or the query that a call answers, or that a heartbeat is of.
     fn place_of<Q: Wait>(
         &self,
         rt: &Q,
         method: &str,
         params: &Value,
     ) -> Result<Option<String>, AllocError> {
-        if responds(method) || beats(method) {
+        if answers_query(method) {
+            self.queries.lock(rt).place_of(token_of(params))
+        } else if responds(method) || beats(method) {
             self.tasks.lock(rt).place_of(token_of(params))
         } else {
             Ok(None)
@@ -162,9 +219,36 @@ impl<'a, C: Caller> KeepingCalls<'a, C> {
         drop(place);
     }
 
-    /// Makes a call with what is kept at a place. The task is forgotten once the server took its
-    /// answer, since it may be answered a second time until then, and the place if nothing more
-    /// comes of it.
+    /// Answers a query that came alone with what is kept for it, which is then forgotten, unless
+    /// another query of its run waits. A query is answered once.
+    fn answer_query<Q: Wait>(
+        &self,
+        rt: &Q,
+        run: &str,
+        method: &str,
+        params: Value,
+    ) -> Result<(u64, CallResult), CallFault> {
+        let token = String::from_str(self.calls.allocator(), token_of(&params))?;
+        let handed = self.hand_on(rt, run, params);
+        self.end_query(rt, token.as_str(), run);
+        self.calls.call(rt, method, handed?)
+    }
+
+    /// Forgets a query that came alone, and what is kept for the queries of its run if it was the
+    /// last of them. The queries stay locked until then, so that what comes with another is kept.
+    fn end_query<Q: Wait>(&self, rt: &Q, token: &str, run: &str) {
+        let mut queries = self.queries.lock(rt);
+        let place = queries.end(token);
+        if !queries.has(run) {
+            self.forget(rt, &self.until_answered, run);
+        }
+        drop(queries);
+        drop(place);
+    }
+
+    /// Makes a call with what is kept at a place, which is forgotten before the call if nothing more
+    /// comes of it: the next task of the run may come before the response. The task is forgotten
+    /// once the server took its answer, since it may be answered a second time until then.
     fn call_from<Q: Wait>(
         &self,
         rt: &Q,
@@ -175,13 +259,14 @@ impl<'a, C: Caller> KeepingCalls<'a, C> {
         let token = String::from_str(self.calls.allocator(), token_of(&params))?;
         let closes = closes_run(&params);
         let params = self.hand_on(rt, place, params)?;
+        self.end_place(rt, method, place);
         let response = self.calls.call(rt, method, params);
         let is_taken = is_acknowledged(&response);
         if is_taken && responds(method) {
             self.end(rt, token.as_str());
         }
-        if ends_place(method) || (is_taken && closes) {
-            self.forget(rt, place);
+        if is_taken && closes {
+            self.forget(rt, &self.runs, place);
         }
         response
     }
@@ -210,6 +295,9 @@ impl<C: Caller> Caller for KeepingCalls<'_, C> {
             return self.fetch(rt, method, params);
         }
         match self.place_of(rt, method, &params) {
+            Ok(Some(place)) if answers_query(method) => {
+                self.answer_query(rt, place.as_str(), method, params)
+            }
             Ok(Some(place)) => self.call_from(rt, place.as_str(), method, params),
             Ok(None) => self.calls.call(rt, method, params),
             Err(fault) => Err(CallFault::from(fault)),

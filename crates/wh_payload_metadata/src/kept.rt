@@ -13,9 +13,6 @@ use serde_json::Value;
 use std::alloc::{AllocError, Global};
 use std::num::NonZeroUsize;
 
-/// With how many payloads of a run more are still noted.
-const MOST_PAYLOADS: usize = 10_000;
-
 /// The name of a run, and what was seen of it.
 type KeptRun = (String, SeenPayloads);
 
@@ -26,7 +23,8 @@ pub(crate) struct KeptRuns {
     pub(crate) runs: LruCache<String, SeenPayloads>,
 }
 
-/// Notes something that came of a run.
+/// Notes something that came of a run, however much of it was noted before: a payload that is not
+/// noted could not be read where it goes. The run's history bounds it.
 fn note(alloc: Global, seen: &mut SeenPayloads, came: &Value) -> Result<(), AllocError>
     ensures metadata { OnOk result (metadata_seen seen.new
         ≡ metadata_after (view came.now) (metadata_seen seen.old)) }
@@ -34,10 +32,7 @@ fn note(alloc: Global, seen: &mut SeenPayloads, came: &Value) -> Result<(), Allo
         ≡ header_after (started_header (view came.now)) (header_seen seen.old)) }
 {
     seen.keep_header(came)?;
-    if seen.len() < MOST_PAYLOADS {
-        seen.keep_payloads(alloc, came)?;
-    }
-    Ok(())
+    seen.keep_payloads(alloc, came)
 }
 
 /// Notes something that came of a run, as if nothing had come of it before.

@@ -1,8 +1,8 @@
 //! Reads what calls say of runs and tasks.
 
-ghost use Rattle.std.specs.Prelude.{◌≡◌, map, option_and_then, option_map};
+ghost use Rattle.std.specs.Prelude.{◌≡◌, bytes_eq, codes, map, option_and_then, option_map};
 ghost use Rattle.serde_json.specs.View.{view};
-ghost use Rattle.wh_payload_metadata.specs.Messages.{token_of, polls_activities, polled_place, fetched_run, fetches};
+ghost use Rattle.wh_payload_metadata.specs.Messages.{token_of, is_query, polls_activities, brings_workflow_task, polled_place, fetched_run, fetches};
 ghost use Rattle.wh_payload_metadata.specs.Messages.{responds, beats, responds_to_activity, ends_place, closes, closes_run, last};
 ghost use Rattle.wh_json.specs.Fields.{list_in};
 
@@ -22,6 +22,21 @@ fn polls_activities(method: &str) -> bool
     ensures { result ≡ polls_activities method.now }
 {
     method == "PollActivityTaskQueue"
+}
+
+/// Whether a poll brought a query that came alone.
+pub(crate) fn is_query(polled: &Value) -> bool
+    ensures { result ≡ is_query (view polled.now) }
+{
+    field(Some(polled), "query").is_some()
+}
+
+/// Whether a poll of this method brought a workflow task, so that what came with it is kept after its
+/// answer.
+pub(crate) fn brings_workflow_task(method: &str, polled: &Value) -> bool
+    ensures { result ≡ brings_workflow_task method.now (view polled.now) }
+{
+    !polls_activities(method) && !is_query(polled)
 }
 
 /// The name under which it is kept what a poll brought: the id of the run, and of an activity task
@@ -57,6 +72,13 @@ pub(crate) fn responds(method: &str) -> bool
     method.starts_with("Respond")
 }
 
+/// Whether a call of this method answers a query that came alone.
+pub(crate) fn answers_query(method: &str) -> bool
+    ensures { result ≡ bytes_eq method.now (codes "RespondQueryTaskCompleted") }
+{
+    method == "RespondQueryTaskCompleted"
+}
+
 /// Whether a call of this method is a heartbeat.
 pub(crate) fn beats(method: &str) -> bool
     ensures { result ≡ beats method.now }
@@ -65,7 +87,7 @@ pub(crate) fn beats(method: &str) -> bool
 }
 
 /// Whether a call of this method answers an activity task.
-fn responds_to_activity(method: &str) -> bool
+pub(crate) fn responds_to_activity(method: &str) -> bool
     ensures { result ≡ responds_to_activity method.now }
 {
     method == "RespondActivityTaskCompleted"

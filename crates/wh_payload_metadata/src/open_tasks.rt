@@ -1,7 +1,7 @@
 //! The tasks that are not answered.
 
 ghost use Rattle.std.specs.Prelude.{◌≡◌, IfOk, OnOk, Some, option_map, string_bytes};
-ghost use Rattle.wh_payload_metadata.specs.Kept.{place_of};
+ghost use Rattle.wh_payload_metadata.specs.Kept.{place_of, leads_to};
 
 use lru::LruCache;
 use std::alloc::{AllocError, Global};
@@ -51,5 +51,17 @@ impl OpenTasks {
             Some(place) => Ok(Some(place.clone()?)),
             None => Ok(None),
         }
+    }
+
+    /// Whether a task that is not answered has this place.
+    pub(crate) fn has(&self, place: &str) -> bool
+        ensures { result ≡ leads_to place.now self.now.tasks.entries }
+    {
+        for (_token, other) in self.tasks.iter() {
+            if other.as_str() == place {
+                return true;
+            }
+        }
+        false
     }
 }
