@@ -13,11 +13,11 @@ pub(crate) struct ByClosure<F> {
 
 impl<F: Fn(Global, &[Event], &Members) -> Result<Members, OutOfMemory>> QueryHandler
     for ByClosure<F> {
-    ghost use Rattle.wh_crew.specs.TaskQueries.{IsGivenBy};
+    ghost use Rattle.wh_crew.specs.TaskQueries.{ComesTo};
 
     ghost ready = { λ handler. F.IsAlwaysCallable handler.answer };
 
-    ghost gives_results = { λ handler events queries results. IsGivenBy F.Fn handler.answer events queries results };
+    ghost gives_results = { λ handler events queries results. ComesTo F.Fn handler.answer events queries results };
 
     fn answer_queries(
         &self,
