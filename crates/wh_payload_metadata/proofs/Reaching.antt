@@ -1,8 +1,7 @@
 -- Handing on reaches each payload, and each command that takes a header.
 use Rattle.std.proofs.Common.{◌≡◌, ℕ, List, [], ◌∷◌, ◌++◌, Bool, true, false, cond, map, Option, Some, None, codes, refl, sym, ap, ap₂, ◌∙◌}
 use Rattle.std.proofs.lemmas.List.{map-append}
-use Rattle.serde_json.specs.Data.{Data, null, boolean, number, string, array, object, Items, no_items, item, Members, no_members, member, put}
-use Rattle.serde_json.specs.Find.{get_member}
+use Rattle.serde_json.specs.Data.{Data, null, boolean, number, string, array, object, Items, no_items, item, Members, no_members, member}
 use Rattle.serde_json.proofs.Views.{get_member-put}
 use Rattle.wh_json.specs.Fields.{list_of}
 use Rattle.wh_payload_metadata.specs.Payloads.{is_payloads, payloads_in, payloads_of, payloads_of_items, payloads_of_members, payloads_of_member}

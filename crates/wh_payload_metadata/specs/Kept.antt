@@ -1,5 +1,5 @@
 -- What is kept of runs.
-use Rattle.std.specs.Prelude.{ℕ, List, [], ◌∷◌, Bool, false, ◌||◌, string_bytes, bytes_eq, Option, Some, None, option_map}
+use Rattle.std.specs.Prelude.{◌≡◌, ◌⊎◌, true, IsSomeAnd, ℕ, List, [], ◌∷◌, Bool, false, ◌||◌, string_bytes, bytes_eq, Option, Some, None, option_map}
 use Rattle.std.specs.declared.alloc.Global.{Global}
 use Rattle.std.specs.declared.string.String.{String}
 use Rattle.std.specs.Map.{lookup}
@@ -48,6 +48,12 @@ kept_header kept name = header_in (kept_run kept name)
 -- the metadata of a run after something came, all of whose payloads are noted
 abbrev pub metadata_after : Data → Members → Members
 metadata_after came seen = all_noted (payloads_of came) seen
+
+-- what is kept under each other name stays, or is what is returned because there is no room for it
+abbrev pub OthersStay : KeptRuns → KeptRuns → List ℕ → Option (Text × SeenPayloads) → Type 0
+OthersStay before after name displaced =
+    (other : List ℕ) → bytes_eq name other ≡ false
+    → (kept_run after other ≡ kept_run before other) ⊎ IsSomeAnd displaced (λ run. bytes_eq other (string_bytes run.0) ≡ true)
 
 -- a request with what was seen of its run, if that is kept
 abbrev pub handed_by : Option SeenPayloads → Data → Data

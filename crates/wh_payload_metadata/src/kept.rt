@@ -5,7 +5,7 @@ ghost use Rattle.std.specs.Map.{remove_entry};
 ghost use Rattle.serde_json.specs.Data.{no_members};
 ghost use Rattle.serde_json.specs.View.{view};
 ghost use Rattle.wh_payload_metadata.specs.Seen.{metadata_seen, header_seen, header_after, started_header};
-ghost use Rattle.wh_payload_metadata.specs.Kept.{kept_run, kept_metadata, kept_header, metadata_after, handed_by};
+ghost use Rattle.wh_payload_metadata.specs.Kept.{kept_run, kept_metadata, kept_header, metadata_after, handed_by, OthersStay};
 
 use crate::seen::SeenPayloads;
 use lru::LruCache;
@@ -58,6 +58,7 @@ impl KeptRuns {
     fn take(&mut self, name: &str) -> SeenPayloads
         ensures metadata { metadata_seen result ≡ kept_metadata self.old name.now }
         ensures header { header_seen result ≡ kept_header self.old name.now }
+        ensures others { OthersStay self.old self.new name.now None }
     {
         match self.runs.pop(name) {
             Some(seen) => seen,
@@ -69,7 +70,10 @@ impl KeptRuns {
     fn put(&mut self, name: &str, seen: SeenPayloads) -> Result<Option<KeptRun>, AllocError>
         ensures metadata { OnOk result (kept_metadata self.new name.now ≡ metadata_seen seen) }
         ensures header { OnOk result (kept_header self.new name.now ≡ header_seen seen) }
+        ensures others { IfOk result (λ displaced. OthersStay self.old self.new name.now displaced) }
     {
+        // Its contract says that there is no more than there is room for.
+        let _held = self.runs.len();
         let key = String::from_str(self.alloc, name)?;
         let displaced = self.runs.push(key, seen)?;
         Ok(displaced)
@@ -81,10 +85,12 @@ impl KeptRuns {
             ≡ metadata_after (view came.now) (kept_metadata self.old name.now)) }
         ensures header { OnOk result (kept_header self.new name.now
             ≡ header_after (started_header (view came.now)) (kept_header self.old name.now)) }
+        ensures others { IfOk result (λ displaced. OthersStay self.old self.new name.now displaced) }
     {
         let mut seen = self.take(name);
         note(self.alloc, &mut seen, came)?;
-        self.put(name, seen)
+        let displaced = self.put(name, seen)?;
+        Ok(displaced)
     }
 
     /// Keeps something that came of a run, which was noted before, if there is something to keep.
@@ -102,6 +108,7 @@ impl KeptRuns {
             ≡ metadata_after (view came.now) (kept_metadata self.old name.now)) }
         ensures header { OnOk result (kept_header self.new name.now
             ≡ header_after (started_header (view came.now)) (kept_header self.old name.now)) }
+        ensures others { IfOk result (λ displaced. OthersStay self.old self.new name.now displaced) }
     {
         if noted.is_empty() {
             self.runs.promote(name);

@@ -1,10 +1,9 @@
-use Rattle.std.proofs.Common.{string_bytes, bytes_eq, refl, sym, ap, ◌∙◌}
+use Rattle.std.proofs.Common.{string_bytes, bytes_eq, inl, sym, ap, ◌∙◌}
 use Rattle.std.specs.Map.{lookup}
 use Rattle.serde_json.specs.View.{view}
-use Rattle.wh_payload_metadata.specs.Payloads.{payloads_of}
-use Rattle.wh_payload_metadata.specs.Seen.{metadata_seen, header_seen, is_nothing, started_header, header_after}
-use Rattle.wh_payload_metadata.specs.Kept.{metadata_in, header_in, metadata_after, kept_metadata, kept_header}
-use Rattle.wh_payload_metadata.proofs.Lookups.{lookup-promoted, nothing_metadata}
+use Rattle.wh_payload_metadata.specs.Seen.{metadata_seen, is_nothing, started_header}
+use Rattle.wh_payload_metadata.specs.Kept.{metadata_in, header_in, kept_metadata, kept_header}
+use Rattle.wh_payload_metadata.proofs.Lookups.{lookup-promoted, lookup-promoted_other, apart_names, nothing_metadata}
 use Rattle.wh_payload_metadata.proofs.Nothing.{quiet_after, no_header}
 use Rattle.wh_payload_metadata.proofs.kept.KeptRuns.keep.Goals as goal
 
@@ -26,3 +25,9 @@ returns-then-is_empty-clause-header c =
     ap (λ cache. header_in (lookup (λ k. bytes_eq name (string_bytes k)) cache.entries)) c.promote.ensures.entries
     ∙ ap header_in (lookup-promoted (λ k. bytes_eq name (string_bytes k)) runs)
     ∙ sym (no_header (started_header (view c.args.came.now)) (kept_header c.args.self.now name) (metadata_seen c.args.noted) nothing)
+
+pub returns-then-is_empty-clause-others : goal.returns-then-is_empty-clause-others
+returns-then-is_empty-clause-others c other differ =
+    inl (ap (λ cache. lookup (λ k. bytes_eq other (string_bytes k)) cache.entries) c.promote.ensures.entries
+    ∙ lookup-promoted_other (λ k. bytes_eq c.args.name.now (string_bytes k)) (λ k. bytes_eq other (string_bytes k))
+    (λ k. apart_names c.args.name.now other (string_bytes k) differ) c.args.self.now.runs.entries)

@@ -1,7 +1,7 @@
-use Rattle.std.proofs.Common.{string_bytes, bytes_eq, ap, ◌∙◌}
+use Rattle.std.proofs.Common.{◌≡◌, true, IsSomeAnd, string_bytes, bytes_eq, inl, inr, subst, sym, ap, ◌∙◌}
 use Rattle.std.specs.Map.{lookup}
 use Rattle.wh_payload_metadata.specs.Kept.{metadata_in, header_in}
-use Rattle.wh_payload_metadata.proofs.Lookups.{lookup-put_name}
+use Rattle.wh_payload_metadata.proofs.Lookups.{lookup-put_name, lookup-pushed}
 use Rattle.wh_payload_metadata.proofs.kept.KeptRuns.put.Goals as goal
 
 pub returns-clause-metadata : goal.returns-clause-metadata
@@ -15,3 +15,12 @@ returns-clause-header c =
     let name = c.args.name.now in
     ap (λ cache. header_in (lookup (λ k. bytes_eq name (string_bytes k)) cache.entries)) c.in_ok-displaced.ensures.entries
     ∙ ap header_in (lookup-put_name c.args.self.now.runs name c.in_ok-key.key c.args.seen c.in_ok-key.ensures.ok)
+
+pub returns-clause-others : goal.returns-clause-others
+returns-clause-others c other differ =
+    let runs = c.args.self.now.runs in
+    let valid = c.len-held.ensures.valid in
+    elim (lookup-pushed runs c.in_ok-key.key c.args.seen other valid.1 valid.2 (ap (λ n. bytes_eq n other) c.in_ok-key.ensures.ok ∙ differ)) [
+      | inl same ↦ inl (ap (λ cache. lookup (λ k. bytes_eq other (string_bytes k)) cache.entries) c.in_ok-displaced.ensures.entries ∙ same)
+      | inr last ↦ inr (subst (λ run. IsSomeAnd run (λ e. bytes_eq other (string_bytes e.0) ≡ true)) (sym c.in_ok-displaced.ensures.old) last)
+    ]
