@@ -243,15 +243,15 @@ fn write_bad_name<E: Write>(dir: &str, entry: &String, name: &str, writer: &mut 
 /// Writes one line for each entry of a folder that can't be read because its name is not UTF-8.
 fn write_bad_names<E: Write>(
     dir: &str,
-    entries: Vec<String>,
+    entries: &[String],
     name: &str,
     writer: &mut E,
 ) -> io::Result<()>
     ensures { OnOk result (Appends (E.contents writer.old) (E.contents writer.new)
-        (bad_name_lines dir.now entries.items name.now)) }
+        (bad_name_lines dir.now entries.now name.now)) }
 {
     for entry in entries {
-        write_bad_name(dir, &entry, name, writer)?;
+        write_bad_name(dir, entry, name, writer)?;
     }
     Ok(())
 }
@@ -312,17 +312,22 @@ fn write_failed<E: Write>(failure: &Failure, name: &str, writer: &mut E) -> io::
 }
 
 /// Writes a diagnostic.
-fn write_diagnostic<E: Write>(diagnostic: Diagnostic, name: &str, writer: &mut E) -> io::Result<()>
+fn write_diagnostic<E: Write>(diagnostic: &Diagnostic, name: &str, writer: &mut E) -> io::Result<()>
     ensures { OnOk result (Appends (E.contents writer.old) (E.contents writer.new)
-        (diagnostic_text diagnostic name.now)) }
+        (diagnostic_text diagnostic.now name.now)) }
 {
     match diagnostic {
         Diagnostic::NoFiles { dir } => write_no_files(dir.get(), name, writer),
-        Diagnostic::BadNames { dir, names } => write_bad_names(dir.get(), names, name, writer),
-        Diagnostic::BadJson { file, detail } => write_detail(file.get(), &detail, name, writer),
+        Diagnostic::BadNames { dir, names } => write_bad_names(
+            dir.get(),
+            names.as_slice(),
+            name,
+            writer,
+        ),
+        Diagnostic::BadJson { file, detail } => write_detail(file.get(), detail, name, writer),
         Diagnostic::BadFiles { records } => write_records(records.as_slice(), name, writer),
-        Diagnostic::Queried { own } => write_record(&own, name, writer),
-        Diagnostic::Failed { failure } => write_failed(&failure, name, writer),
+        Diagnostic::Queried { own } => write_record(own, name, writer),
+        Diagnostic::Failed { failure } => write_failed(failure, name, writer),
     }
 }
 
@@ -332,6 +337,8 @@ impl Message for Diagnostic {
     ghost text = { diagnostic_text };
 
     fn write<E: Write>(self, name: &str, writer: &mut E) -> io::Result<()> {
-        write_diagnostic(self, name, writer)
+        let written = write_diagnostic(&self, name, writer);
+        drop(self);
+        written
     }
 }
