@@ -132,7 +132,7 @@ def measure(asked, payloads, has_header, has_more):
 def main():
     parser = argparse.ArgumentParser(description=__doc__, formatter_class=argparse.RawDescriptionHelpFormatter)
     parser.add_argument("--program", type=str.split, default=[str(PROGRAM)])
-    parser.add_argument("--runs", type=int, default=20_000)
+    parser.add_argument("--runs", type=int, default=9_000)
     parser.add_argument("--bytes", type=int, default=100)
     asked = parser.parse_args()
     print(f"{asked.runs:,} runs, payloads of {asked.bytes} bytes")
