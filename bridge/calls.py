@@ -235,7 +235,8 @@ class Calls:
 
     def is_normal(self, code: int, took: float) -> bool:
         """Returns whether a poll that ends with this code after so many seconds has not failed: the bridge stops, or the poll
-        was empty. One that is late at once, or gets no response at all, may be one that no server saw."""
+        was empty. One that ends with DEADLINE_EXCEEDED at once, or gets no response, may
+        be one that no server saw."""
         return code == CANCELLED and self.is_stopped.is_set() or code == DEADLINE and QUICK_SECONDS <= took <= LATE_SECONDS
 
     def name_events(self, result: Dict[str, Any], request: Any) -> None:
