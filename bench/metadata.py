@@ -1,6 +1,6 @@
 #!/usr/bin/env python3
 """Measures what `wfhost work` takes of the memory for the metadata of payloads and the headers that it keeps of cached runs
-(docs/LIVE.md), and prints a row for each number of payloads in the input of a run, and one for a header: the resident bytes
+(docs/use/LIVE.md), and prints a row for each number of payloads in the input of a run, and one for a header: the resident bytes
 of a run whose payloads have an encoding alone, and whose start has no header; those of one that has more; and by how many
 they are more, for a run and for each of its payloads. A run's bytes are what the program takes with all runs cached, less
 what it takes with one, by the number of runs. This script is the server, over pipes: it gives the first task of each run,

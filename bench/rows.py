@@ -1,5 +1,5 @@
 #!/usr/bin/env python3
-"""Compares workflows as rows with the same in code: the instructions that `rows_worker` and `wfhost` execute, as valgrind
+"""Compares workflows as rows with the same in code: the instructions that `order_worker` and `wfhost` execute, as valgrind
 counts them, to replay a history with what is found of places and differences. A history is the whole of a short run, or one
 with many tasks, each with a signal that the workflow does not know. It is no part of the gate."""
 
@@ -11,7 +11,7 @@ from pathlib import Path
 import replay
 from replay import TASK, TOP, event, instructions
 
-PROGRAMS = {"code": TOP / "crates/wfhost/out/wfhost", "rows": TOP / "crates/rows_worker/out/rows_worker"}
+PROGRAMS = {"code": TOP / "crates/wfhost/out/wfhost", "rows": TOP / "crates/order_worker/out/order_worker"}
 # What replays a file, and what of that reads it.
 FUNCTIONS = ["wh_explain::findings::find_in_bytes::*", "wh_json::events::read_events*"]
 TASKS = 2_500

@@ -171,6 +171,8 @@ class Calls:
     def __init__(self, found: Namespace):
         self.found, self.connections = found, Connections(found)
         self.counts, self.tasks, self.readiness = Counts(), TaskCounts(), Readiness()
+        # Nobody sees the counts unless they are served.
+        self.is_counted = bool(found.listen)
         self.pauses, self.tokens, self.reports = Pauses(), Tokens(), Reports()
         self.is_stopped, self.stopped = threading.Event(), 0.0
 
@@ -220,10 +222,12 @@ class Calls:
             response = call(request, timeout=longest, metadata=connections.beside(namespace))
         except grpc.RpcError as why:
             failure = why
-        self.count(method, namespace or self.found.namespace, time.monotonic() - begun, failure and failure.code())
+        if self.is_counted:
+            self.count(method, namespace or self.found.namespace, time.monotonic() - begun, failure and failure.code())
         if failure is not None:
             return None, (failure.code().value[0], failure.details() or failure.code().name)
-        self.tasks.add(method, namespace or self.found.namespace, request, response)
+        if self.is_counted:
+            self.tasks.add(method, namespace or self.found.namespace, request, response)
         result = json_format.MessageToDict(response)
         self.name_events(result, request)
         return result, None

@@ -1,4 +1,4 @@
-"""A worker for the activities of docs/WORKFLOWS-WITHOUT-CODE.md. It needs `pip install temporalio`."""
+"""A worker for the activities of docs/write/WORKFLOWS-WITHOUT-CODE.md. It needs `pip install temporalio`."""
 
 import asyncio
 from temporalio import activity

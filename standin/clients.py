@@ -71,7 +71,8 @@ class Clients:
         return run
 
     def signal(self, params):
-        self.server.runs.signal(self.run_of(params["workflowExecution"]), params["signalName"], params.get("input"))
+        run = self.run_of(params["workflowExecution"])
+        self.server.runs.signal(run, params["signalName"], params.get("input"), params.get("header"))
         return {}
 
     def request_cancel(self, params):

@@ -3,7 +3,7 @@
 import base64
 import json
 
-from history import CARRIED_OVER, LAST_OF_ALL, Activity, Child, left_out
+from history import CARRIED_OVER, LAST_OF_ALL, Activity, Child, header_after, left_out
 from messages import command_in, milliseconds_of
 
 CLOSINGS = {
@@ -70,8 +70,8 @@ class Check:
         return "" if is_good else f"the task queue is {name}"
 
     def header(self, attributes):
-        """Returns an empty text if the header is that of the run's start."""
-        found, wanted = attributes.get("header"), self.first().get("header")
+        """Returns an empty text if the header is that which the run's start and its signals give."""
+        found, wanted = attributes.get("header"), header_after(self.run.events)
         return "" if found == wanted else f"the header is {found}, not {wanted}"
 
     def first(self):

@@ -1,7 +1,7 @@
 """What a run has to do, found from its own history: which commands each of its tasks has to give, or with which fault it
 fails, and in which state it leaves the run.
 
-docs/DEFINITIONS.md says what the jobs of a task are, which commands are faults and which are sent. This is written from
+docs/judge/DEFINITIONS.md says what the jobs of a task are, which commands are faults and which are sent. This is written from
 that page alone. What a workflow does for a job is computed by a program:
 
     program.step(job)   returns the commands for a job, as `commands_in` below has them, and enters the state after it

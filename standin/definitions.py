@@ -132,7 +132,7 @@ ActivityTaskCanceledEventAttributes details 1 Payloads, latest_cancel_requested_
     int64, started_event_id 4 int64
 TimerCanceledEventAttributes timer_id 1 string, started_event_id 2 int64, workflow_task_completed_event_id 3 int64
 MarkerRecordedEventAttributes marker_name 1 string, details 2 >Payloads, workflow_task_completed_event_id 3 int64
-WorkflowExecutionSignaledEventAttributes signal_name 1 string, input 2 Payloads
+WorkflowExecutionSignaledEventAttributes signal_name 1 string, input 2 Payloads, header 4 Header
 WorkflowExecutionTerminatedEventAttributes reason 1 string
 WorkflowExecutionCancelRequestedEventAttributes cause 1 string
 WorkflowExecutionCanceledEventAttributes workflow_task_completed_event_id 1 int64
@@ -212,7 +212,7 @@ StartWorkflowExecutionRequest namespace 1 string, workflow_id 2 string, workflow
     search_attributes 15 SearchAttributes, header 16 Header
 StartWorkflowExecutionResponse run_id 1 string
 SignalWorkflowExecutionRequest namespace 1 string, workflow_execution 2 WorkflowExecution, signal_name 3 string, input 4
-    Payloads, identity 5 string, request_id 6 string
+    Payloads, identity 5 string, request_id 6 string, header 8 Header
 SignalWorkflowExecutionResponse
 UpdateMeta update_id 1 string, identity 2 string
 UpdateInput header 1 Header, name 2 string, args 3 Payloads

@@ -19,11 +19,11 @@ class Heard:
 
 
 class Till:
-    """The activities of `order_worker`: `ChargeCard` returns its input; `PrintLabels` prints a label for each payload
-    of its input, but for those that an earlier attempt has printed, sends a heartbeat after each, with the number of
-    printed labels, and returns their number; one of another type fails. Heartbeats may be held, so that some numbers are
-    left out, but not the first one, and one without a response may be sent again. If a heartbeat's response says that the
-    cancellation of the activity is requested, or that its answer is no longer expected, it gives up."""
+    """The activities of orders, as `order_worker` has them: `ChargeCard` returns its input; `PrintLabels` prints a label for
+    each payload of its input, but for those that an earlier attempt has printed, sends a heartbeat after each, with the number
+    of printed labels, and returns their number; one of a type that it does not know fails. Heartbeats may be held, so that some
+    numbers are left out, but not the first one, and one without a response may be sent again. If a heartbeat's response says
+    that the cancellation of the activity is requested, or that its answer is no longer expected, it gives up."""
 
     kinds = ("ChargeCard", "PrintLabels", "PrintLabels", "Mail")
 

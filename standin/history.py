@@ -15,6 +15,8 @@ FIRST = datetime(2024, 5, 1, 10, 0, 0, tzinfo=timezone.utc)
 # Ends of activities and children are written after all else that was held back.
 LAST_OF_ALL = ("ActivityTaskCompleted", "ActivityTaskFailed", "ActivityTaskTimedOut", "ActivityTaskCanceled")
 LAST_OF_ALL += tuple(f"ChildWorkflowExecution{end}" for end in ("Completed", "Failed", "Canceled", "TimedOut", "Terminated"))
+# The attributes of the events that bring a header.
+BRINGS_HEADER = ("workflowExecutionStartedEventAttributes", "workflowExecutionSignaledEventAttributes")
 # What a run carries over to the one that continues it.
 CARRIED_OVER = ("memo", "retryPolicy", "searchAttributes")
 
@@ -44,6 +46,13 @@ def left_out(members):
 def carried_over(members):
     """Returns those of a run's first members with which the run that continues it begins too."""
     return {name: members[name] for name in CARRIED_OVER if name in members}
+
+
+def header_after(events):
+    """Returns the header that these events of a run give: of each field the value that came last. Without a field there is none."""
+    headers = [event[name].get("header", {}) for event in events for name in BRINGS_HEADER if name in event]
+    fields = {name: value for header in headers for name, value in header.get("fields", {}).items()}
+    return {"fields": fields} if fields else None
 
 
 class Activity:

@@ -2,6 +2,7 @@
 
 from findings import token_of
 from history import Run, carried_over, left_out
+from workflows import TRACES, header_of
 
 # What a client with a codec adds to the metadata of payloads.
 OF_CODEC = {"encryption-key-id": token_of("key-7"), "messageType": token_of("shop.Order")}
@@ -46,15 +47,20 @@ class Runs:
         has_codec = self.server.troubles.happens("metadata")
         return {**one, "metadata": {**one.get("metadata", {}), **OF_CODEC}} if has_codec else one
 
+    def traced(self, value):
+        """Returns the header of a client that traces what it asks for, as some do, or None."""
+        troubles = self.server.troubles
+        return header_of(troubles.dice.choice(TRACES), value) if troubles.happens("metadata") else None
+
     # What comes to a run.
 
-    def signal(self, run, name, input=None):
+    def signal(self, run, name, input=None, header=None):
         """Sends the signal of a client."""
-        self.send_signal(run, name, self.coded(input))
+        self.send_signal(run, name, self.coded(input), header or self.traced(f"signal {len(run.events)}"))
 
-    def send_signal(self, run, name, input):
+    def send_signal(self, run, name, input, header=None):
         if run.closed is None:
-            run.come_in("WorkflowExecutionSignaled", left_out({"signalName": name, "input": input}))
+            run.come_in("WorkflowExecutionSignaled", left_out({"signalName": name, "input": input, "header": header}))
 
     def request_cancel(self, run):
         if run.closed is None and not run.is_canceled:

@@ -24,8 +24,8 @@ CARRIED = {
         "indexedFields": {"City": {"metadata": {"encoding": "anNvbi9wbGFpbg==", "type": "S2V5d29yZA=="}, "data": "IlBhcmlzIg=="}}
     },
 }
-# The header of a run whose client traces it, which the run's activities and children get too.
-HEADER = {"fields": {"trace": {"metadata": {"encoding": "anNvbi9wbGFpbg==", "kind": "dHJhY2U="}, "data": "IjAwLTFhMmIi"}}}
+# The fields of the headers of clients that trace their runs and signals, which the run's activities and children get too.
+TRACES = (("trace",), ("trace", "baggage"), ("baggage",))
 NOISE = ("noise", [1, "two"])
 # How many signals a workflow of one's own gets until it has to be closed, and how many milliseconds pass between two.
 MOST_SIGNALS, SIGNAL_GAPS = 40, (100, 10 * SECOND, 600 * SECOND, DAY, 20 * DAY)
@@ -33,6 +33,12 @@ MOST_SIGNALS, SIGNAL_GAPS = 40, (100, 10 * SECOND, 600 * SECOND, DAY, 20 * DAY)
 
 def base64_of(text):
     return base64.b64encode(text.encode()).decode()
+
+
+def header_of(names, value):
+    """Returns a header of these fields."""
+    metadata = {"encoding": base64_of("json/plain"), "kind": base64_of("trace")}
+    return {"fields": {name: {"metadata": metadata, "data": base64_of(json.dumps(f"{name} {value}"))} for name in names}}
 
 
 def payloads(*values):

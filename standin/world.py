@@ -1,6 +1,6 @@
 """What happens around the workflows: when runs start, what their activities do, and what comes from outside."""
 
-from workflows import DAY, HEADER, SAID_OF_STRANGE, SECOND, STRANGE, payloads
+from workflows import DAY, SAID_OF_STRANGE, SECOND, STRANGE, payloads
 
 
 class Once:
@@ -43,9 +43,8 @@ class World:
         if companion:
             self.watch(self.server.runs.start(*companion))
         workflow_id = f"{kind.lower()}-{number}"
-        input, carried = self.workflows.input(kind, number, workflow_id), self.workflows.carried()
-        if self.troubles.happens("metadata"):
-            carried["header"] = HEADER
+        input, header = self.workflows.input(kind, number, workflow_id), self.server.runs.traced(f"run {number}")
+        carried = {**self.workflows.carried(), **({"header": header} if header else {})}
         self.watch(self.server.runs.start(kind, workflow_id, input, carried=carried))
 
     def watch(self, run):

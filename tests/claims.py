@@ -1,10 +1,15 @@
 #!/usr/bin/env python3
-"""Tries what docs/PROVED.md cites: each name in backticks is a function, a type, a trait, a definition, a crate or a file of the
-repository, and each clause in parentheses after it is one of its clauses, fields or ghost items. In the table of crates the word
-before a name is its crate. All pages are searched for links: each file is there, and each heading.
+"""Tries what docs/judge/PROVED.md cites: each name in backticks is a function, a type, a trait, a definition, a crate or a file
+of the repository, and each clause in parentheses after it is one of its clauses, fields or ghost items. In the table of crates
+the word before a name is its crate. In docs/change/CHANGING.md each file in backticks is there, in the crate that the line names
+before it.
 
-The map of docs/ARCHITECTURE.md has each crate of crates.txt once, in the same groups and the same order, and its arrows say what
-the groups stand on; in crates.txt each crate comes after those that it stands on.
+All pages are searched for links: each file is there, and each heading. A fenced block with a file behind its language, as
+```rust crates/wh_host/src/host.rt, is a quotation: each part of it between blank lines stands in that file, in this order, but
+for white space.
+
+The map of docs/change/ARCHITECTURE.md has each crate of crates.txt once, in the same groups and the same order, and its arrows
+say what the groups stand on; in crates.txt each crate comes after those that it stands on.
 
     tests/claims.py
 
@@ -19,12 +24,20 @@ from rows import TOP, try_rows, words_of
 from rust_items import body_of, past_braces
 
 code_of = functools.cache(rust_items.code_of)
-PAGES = [*sorted(TOP.glob("*.md")), *sorted((TOP / "docs").glob("*.md"))]
+PAGES = [*sorted(TOP.glob("*.md")), *sorted((TOP / "docs").glob("*/*.md"))]
 # A name, and the clauses that are cited of it.
 CITED = re.compile(r"`([^`]+)`(?: \(((?:\w+, )*\w+)\))?")
 LINK = re.compile(r"\]\(([^)#:]*)(?:#([\w-]+))?\)")
+# A block that quotes a file.
+QUOTED = re.compile(r"^```\w+ (\S+)\n(.*?)^```$", re.DOTALL | re.MULTILINE)
+# What a recipe names: a crate, or a file.
+NAMED = re.compile(r"`([\w/]+\.(?:rt|antt|py|txt|toml|yaml|c))`|\b([a-z]+(?:_[a-z]+)+)\b")
+# Where the files of a crate are, and those of no crate.
+PLACES = ("src", "specs", ".")
 # What a type parameter or a ghost item may be called in backticks, without being an item of its own.
-WORDS = {"F", "gives", "Wait", "wh_"}
+WORDS = {"F", "W.program", "gives", "Wait", "wh_"}
+# A definition, in a module too, up to the blank line behind it; a field of a record is none.
+DEFINITION = r"^(?:(?: *(?:abbrev|unfoldable) )?pub | *pub (?:record|data) ){}\b.*?(?=\n\n|\Z)"
 ITEM = r"\b(?:fn|struct|enum|trait|type|static|const)\s+{}\b"
 
 
@@ -71,7 +84,7 @@ def heads(name, crate):
 def definitions(name, crate):
     """Yields the text of each definition of a name, up to the blank line behind it."""
     for text in sources_with(name, crate, "antt"):
-        for found in re.finditer(rf"^(?:abbrev )?pub (?:record )?{name}\b.*?(?=\n\n|\Z)", text, re.DOTALL | re.MULTILINE):
+        for found in re.finditer(DEFINITION.format(name), text, re.DOTALL | re.MULTILINE):
             yield found[0]
 
 
@@ -157,6 +170,39 @@ def wrong_link(file, target, anchor):
     return None
 
 
+def wrong_quotation(name, block):
+    """Returns what is wrong with a quotation of a file, or None."""
+    file = TOP / name
+    if not file.is_file():
+        return f"{name} is not there"
+    text, place = " ".join(file.read_text(encoding="utf-8").split()), 0
+    for part in block.strip().split("\n\n"):
+        wanted = " ".join(part.split())
+        place = text.find(wanted, place)
+        if place < 0:
+            return f"{name} lacks: {wanted[:80]}"
+        place += len(wanted)
+    return None
+
+
+def recipes(page):
+    """Yields each file that the recipes name, with the crate that is named before it in the line, or None."""
+    for line in page.split("\n## ", 1)[-1].split("\n"):
+        crate = None
+        for file, word in NAMED.findall(line):
+            if file:
+                yield file, crate
+            elif (TOP / "crates" / word).is_dir():
+                crate = word
+
+
+def wrong_file(name, crate):
+    """Returns what is wrong with a file that a recipe names, or None."""
+    places = [TOP / "crates" / crate / one for one in PLACES] if crate else []
+    is_there = any((place / name).is_file() for place in (*places, TOP, TOP / "tests/work"))
+    return None if is_there else f"{name} is not in {crate or 'the repository'}"
+
+
 def map_drawn(page):
     """Returns the map: the groups by their names, each with its crates, and the arrows from group to group."""
     section = re.search(r"^## The crates$.*?(?=^## )", page, re.DOTALL | re.MULTILINE)[0]
@@ -205,15 +251,25 @@ def claims_of_map(page):
         yield f"the arrow {' --> '.join(one)}", None if one in wanted & arrows else why
 
 
+def claims_of_all(file):
+    """Yields each link and each quotation of a page, with what is wrong with it."""
+    page = file.read_text(encoding="utf-8")
+    for target, anchor in LINK.findall(page):
+        yield f"{file.name}: {target}{'#' * bool(anchor)}{anchor}", wrong_link(file, target, anchor)
+    for name, block in QUOTED.findall(page):
+        yield f"{file.name}: a quotation of {name}", wrong_quotation(name, block)
+
+
 def claims():
-    """Yields each citation and each link, with what is wrong with it."""
-    for name, clauses, crate in citations((TOP / "docs/PROVED.md").read_text(encoding="utf-8")):
+    """Yields each claim of the pages that is tried, with what is wrong with it."""
+    for name, clauses, crate in citations((TOP / "docs/judge/PROVED.md").read_text(encoding="utf-8")):
         yield f"PROVED.md: {name}", wrong_name(name, clauses, crate)
-    for what, why in claims_of_map((TOP / "docs/ARCHITECTURE.md").read_text(encoding="utf-8")):
+    for name, crate in recipes((TOP / "docs/change/CHANGING.md").read_text(encoding="utf-8")):
+        yield f"CHANGING.md: {name}", wrong_file(name, crate)
+    for what, why in claims_of_map((TOP / "docs/change/ARCHITECTURE.md").read_text(encoding="utf-8")):
         yield f"ARCHITECTURE.md: {what}", why
     for file in PAGES:
-        for target, anchor in LINK.findall(file.read_text(encoding="utf-8")):
-            yield f"{file.name}: {target}{'#' * bool(anchor)}{anchor}", wrong_link(file, target, anchor)
+        yield from claims_of_all(file)
 
 
 if __name__ == "__main__":

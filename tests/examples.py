@@ -42,7 +42,8 @@ TWINS = {
          "start; failed charge; signal cancel; fired again"),
     ],
     "approval": [
-        ([("reminders 3", "reminders 4"), ("reminders < 3", "reminders < 4")], 1, "start; done ask" + 4 * "; fired day"),
+        ([("reminders 3", "reminders 4"), ("reminders < 3", "reminders < 4")], 1,
+         "start; done ask; fired day" + 3 * "; done remind; fired day"),
         ([('["cancel-timer day","fail rejected"]', '["cancel-timer day","complete brought"]')], 2,
          "start; done ask; signal reject"),
     ],
@@ -78,9 +79,9 @@ def faults_of_page(page, table):
         yield "no picture, or a script"
         return
     drawn = tree.fromstring(picture[0])
-    texts = {"".join(text.itertext()) for text in drawn.iter("text")}
+    titles = {title.text for title in drawn.iter("title")}
     for state in {row[0] for row in table["rows"]}:
-        if state not in texts:
+        if state not in titles:
             yield f"no state {state}"
     ways = sum("way" in path.get("class", "").split() for path in drawn.iter("path"))
     if ways != sum(map(leaves, table["rows"])):

@@ -259,7 +259,7 @@ def values(text):
 
 def add_options_of_kinds(parser):
     """What goes with --kinds."""
-    found = parser.add_argument_group("with --kinds (docs/LIVE.md)")
+    found = parser.add_argument_group("with --kinds (docs/use/LIVE.md)")
     found.add_argument("--timers", type=firings, default="all", help="timers that fire: all, none, or names with commas; NAME=SECONDS "
                        "or all=SECONDS fire after so many seconds in place of their own")
     found.add_argument("--signals", type=names, default=[], help="names of signals, with commas, that come at random until a run closes")

@@ -1,7 +1,7 @@
 #!/usr/bin/env python3
-"""Tries `./new-workflow`: what it refuses, what it makes, and that the scenarios of what it makes pass. With `--program` the
-program of what it makes is tried too, by its recorded history, which takes some minutes. The last line is `N tried, M wrong`,
-and the status is 1 where one is wrong."""
+"""Tries `./new-workflow`: what it refuses, what it makes, of rows and of code, and that the scenarios of what it makes pass. With
+`--program` the programs of what it makes are tried too, by their recorded history, which takes some minutes. The last line is
+`N tried, M wrong`, and the status is 1 where one is wrong."""
 
 import re
 import subprocess
@@ -13,11 +13,17 @@ from pathlib import Path
 from rows import TOP, try_rows, words_of
 
 LIMIT_SECONDS = 1_800
-# Names that are refused, each with what is said of it.
-BAD_NAMES = {"reminder": "is no name of a workflow type", "Order-Refund": "is no name of a workflow type",
-             "StartTimer": "is a word that rows are written in", "WhRows": "there is a crate wh_rows already"}
-OWN = {"order_refund": ["src/lib.rt", "src/tests.rt"],
-       "order_refund_worker": ["args", "data/histories/order_refund.json", "src/main.rt", "stdout"]}
+# The options, and names that are refused, each with what is said of it.
+BAD_NAMES = [([], "reminder", "is no name of a workflow type"), ([], "Order-Refund", "is no name of a workflow type"),
+             ([], "StartTimer", "is a word that rows are written in"), ([], "WhRows", "there is a crate wh_rows already"),
+             (["--code"], "Meter", "is a word that the step function uses"), (["--rows"], "OrderRefund", "Makes a folder")]
+WORKER = ["args", "data/histories/order_refund.json", "src/main.rt", "stdout"]
+# The options, and the files of what is made.
+OWN = [([], {"order_refund": ["src/lib.rt", "src/tests.rt"], "order_refund_worker": WORKER}),
+       (["--code"], {"order_refund": ["specs/Lib.antt", "specs/OrderRefund.antt", "src/lib.rt", "src/tests.rt"],
+                     "order_refund_worker": WORKER})]
+# The name of what is copied, outside of comments.
+OTHER_NAME = re.compile(r"^(?!\s*(?://|--)).*\breminder(?![a-z])|Reminder|REMINDER", re.MULTILINE)
 
 
 def run(words, folder):
@@ -30,10 +36,10 @@ def new_workflow(*words):
 
 def refusals(room):
     """Yields what it should refuse, each with what is wrong."""
-    for name, said in BAD_NAMES.items():
-        ran = new_workflow(room / "bad", name)
+    for options, name, said in BAD_NAMES:
+        ran = new_workflow(*options, room / "bad", name)
         is_right = ran.returncode == 1 and said in ran.stderr and not (room / "bad").exists()
-        yield f"the name {name}", "" if is_right else f"status {ran.returncode}: {ran.stderr}"
+        yield " ".join(["the name", *options, name]), "" if is_right else f"status {ran.returncode}: {ran.stderr}"
     (room / "full").mkdir()
     (room / "full/note").write_text("mine")
     ran = new_workflow(room / "full", "OrderRefund")
@@ -41,20 +47,20 @@ def refusals(room):
     yield "a folder that is not empty", "" if is_right else f"status {ran.returncode}: {ran.stderr}"
 
 
-def made(folder):
+def made(folder, options, own):
     """Yields what it should make, each with what is wrong."""
-    ran = new_workflow(folder, "OrderRefund")
+    ran = new_workflow(*options, folder, "OrderRefund")
     yield "a new folder", "" if ran.returncode == 0 and str(folder) in ran.stdout else ran.stderr
-    for crate, files in OWN.items():
+    for crate, files in own.items():
         place = folder / "crates" / crate
         found = sorted(str(file.relative_to(place)) for file in place.rglob("*") if file.is_file())
         yield f"the files of {crate}", "" if found == files else f"they are {found}"
-        left = [file for file in found if re.search(r"\breminder\b|Reminder|REMINDER", (place / file).read_text())]
+        left = [file for file in found if OTHER_NAME.search((place / file).read_text())]
         yield f"the name in {crate}", "" if not left else f"another one stands in {left}"
     listed = re.findall(r"^(\w+):(.*)", (folder / "crates.txt").read_text(), re.MULTILINE)
     there = sorted(one.name for one in (folder / "crates").iterdir())
     yield "crates.txt", "" if sorted(name for name, _ in listed) == there else f"it has {listed}"
-    for crate in OWN:
+    for crate in own:
         sources = "".join(file.read_text() for file in (folder / "crates" / crate / "src").iterdir())
         lacking = {*re.findall(r"^use (\w+)::", sources, re.MULTILINE)} - {"std", "crate", *dict(listed)[crate].split()}
         yield f"the line of {crate}", "" if not lacking else f"it lacks {sorted(lacking)}"
@@ -75,9 +81,12 @@ def main():
     parser = words_of(__doc__)
     parser.add_argument("--program", action="store_true", help="tries the program of what is made too")
     asked = parser.parse_args()
-    with tempfile.TemporaryDirectory() as room:
-        folder = Path(room, "shop")
-        return try_rows(chain(refusals(Path(room)), made(folder), tried(folder, asked.program)), asked)
+    with tempfile.TemporaryDirectory() as path:
+        room, rows = Path(path), [refusals(Path(path))]
+        for number, (options, own) in enumerate(OWN):
+            folder = room / f"shop{number}"
+            rows += [made(folder, options, own), tried(folder, asked.program)]
+        return try_rows(chain(*rows), asked)
 
 
 if __name__ == "__main__":

@@ -1,18 +1,21 @@
 #!/usr/bin/env python3
 """Tries the pages of runs: `explain --html FILE` of the built program, over the example histories, edited ones with a fault, one
-whose names are hostile, one of 51,200 events, and runs of a table that came with them.
+whose names are hostile, one of 51,200 events, runs of a table that came with them, and runs as the SDKs for Go, TypeScript, Java
+and Python record them.
 
 Each page is read by a parser: its tags balance, nothing in it runs or is fetched, no rule of its style hides text, what is named
 by an id is there, and the times of the picture are those of the table. Its verdict is the line of `replay`, the event that is
 marked is the one that the line names, and both sides of a difference are those that `replay` tells. Whatever the history holds
 stands as text: a history whose names are hostile has the very tags of the same history with plain names. A run of a table has
-that table with marks at the rows that it took, and no other page has one; docs/canceled_order.svg is that of
-examples/runs/canceled_order.json.
+that table with marks at the rows that it took, and no other page has one. Things are named by their types, each event leads to
+its line by an id, and many things of a type share a row of the picture; of more than 300 those that failed or are open are
+shown, and the slowest. The page of `check --html` has each promise with its mark, and the jobs that break it. The pictures in
+docs/pictures are those of the pages that the program makes now.
 
     tests/pages.py [--program PATH]       crates/wfhost/out/wfhost, where it isn't given
     .. --sizes                            prints how large each page is, and how long it took
     .. --shots FOLDER                     then pictures of some pages by Chromium: wide and narrow, light and dark
-    .. --draw                             writes docs/canceled_order.svg
+    .. --draw                             writes docs/pictures
 
 The last line is `N tried, M wrong`."""
 
@@ -34,7 +37,12 @@ from rows import PROGRAM, TOP, need, try_rows, words_of
 
 EXAMPLES = TOP / "examples" / "histories"
 RUN = TOP / "examples" / "runs" / "canceled_order.json"
-DRAWING = TOP / "docs" / "canceled_order.svg"
+# The pictures of docs/pictures: each the words that make its page, and the id of the heading above it there.
+DRAWINGS = {
+    "canceled_order": (["explain", "--html", RUN], "way"),
+    "canceled_order_over_time": (["explain", "--html", RUN], "picture"),
+    "broken_order": (["check", "--html", TOP / "examples/broken/order.json"], "states"),
+}
 VOID = {"meta"}
 KNOWN = set(
     "html head meta title style body header h1 h2 h3 p dl div dt dd main section pre code svg desc defs pattern line"
@@ -51,6 +59,8 @@ HIDES = re.compile(
     r"(?<![\w-])(?:display:\s*none|(?:content-)?visibility:\s*(?:hidden|collapse)"
     r"|(?:opacity|font-size):\s*0*\.?0*(?:%|[a-z]+)?\s*(?:$|[;!]))"
 )
+# How promises are marked on the page of a table.
+MARKS = {"kept": "&#10003; kept", "broken": "&#10007; broken", "undecided": "? not decided"}
 STAMP = r"\d+-\d\d-\d\d \d\d:\d\d:\d\d(?:\.\d+)?"
 WIDTHS = {"wide": 1280, "narrow": 420}
 EVENTS = 51_200
@@ -134,7 +144,7 @@ class Page(HTMLParser):
         if tag == "details":
             self.tasks.append({"open": "open" in names, "lines": []})
         if tag == "li" and "details" in self.open:
-            self.tasks[-1]["lines"].append({"class": classes, "text": ""})
+            self.tasks[-1]["lines"].append({"class": classes, "text": "", "id": names.get("id")})
         if tag == "pre":
             self.sides.append("")
         if tag not in VOID:
@@ -197,6 +207,9 @@ class Page(HTMLParser):
             datetime.datetime.strptime(stamp, "%Y-%m-%d %H:%M:%S")
         for lane, row in zip(self.lanes, self.rows):
             wrong += self.judge_lane(lane, row)
+        lines = [one for task in self.tasks for one in task["lines"]]
+        told = [(re.match(r"\w+ event (\d+) ", one["text"]), one["id"]) for one in lines if "note" not in one["class"]]
+        wrong += [f"{at} leads to {found and found[0]}" for found, at in told if not found or at != f"event-{found[1]}"]
         return wrong
 
     @staticmethod
@@ -211,7 +224,7 @@ class Page(HTMLParser):
         if said[: len(told)] != told:
             wrong.append(f"the lane says {said}, the table {told}")
         for sign in lane["signs"]:
-            if sign["class"] == "room":
+            if sign["class"].startswith("room"):
                 continue
             x = int(sign.get("x") or sign["cx"])
             if not 200 <= x <= 830 or int(sign.get("width", 0)) + x > 833:
@@ -325,6 +338,168 @@ def tabled(names):
     return history.text()
 
 
+def of_go():
+    """A run as the SDK for Go records it: ids are numbers, GetVersion records a marker and upserts search attributes, and the
+    first task runs an activity beside it. Five tasks are completed, and an activity fails."""
+    history = History()
+    history.add("WorkflowExecutionStarted", workflowType={"name": "OrderWorkflow"})
+    history.task()
+    own = {"workflowTaskCompletedEventId": "4"}
+    version = {"change-id": {"payloads": [payload_of("local-validate")]}, "version": {"payloads": [payload_of(1)]}}
+    history.add("MarkerRecorded", markerName="Version", details=version, **own)
+    history.add("UpsertWorkflowSearchAttributes", searchAttributes={"indexedFields": {"TemporalChangeVersion": payload_of(["local-validate-1"])}}, **own)
+    activity(history, "7", "ReserveStock")
+    history.task()
+    activity(history, "13", "ChargeCard", fails="card declined")
+    history.task()
+    activity(history, "19", "ReleaseStock")
+    history.task()
+    timer = str(history.add("TimerStarted", timerId="25", startToFireTimeout="60s"))
+    history.add("TimerFired", startedEventId=timer, timerId="25")
+    history.task()
+    history.add("WorkflowExecutionFailed", failure={"message": "card declined"}, retryState="RETRY_STATE_RETRY_POLICY_NOT_SET")
+    return history.text()
+
+
+def of_typescript():
+    """A run as the SDK for TypeScript records it: `patched` records a marker, and an update is accepted and completed."""
+    history = History()
+    history.add("WorkflowExecutionStarted", workflowType={"name": "cart"})
+    history.task()
+    history.add("MarkerRecorded", markerName="core_patch", details={"patch-data": {"payloads": [payload_of({"id": "vat", "deprecated": False})]}})
+    history.add("UpsertWorkflowSearchAttributes", searchAttributes={"indexedFields": {"TemporalChangeVersion": payload_of(["vat"])}}, workflowTaskCompletedEventId="4")
+    activity(history, "1", "priceOf")
+    history.task()
+    request = {"meta": {"updateId": "u-1", "identity": "web"}, "input": {"name": "addItem", "args": {"payloads": [payload_of({"sku": "A"})]}}}
+    history.add("WorkflowExecutionUpdateAccepted", protocolInstanceId="u-1", acceptedRequest=request)
+    history.add("WorkflowExecutionUpdateCompleted", meta={"updateId": "u-1"}, outcome={"success": {"payloads": [payload_of(1)]}})
+    history.task()
+    history.add("WorkflowExecutionCompleted")
+    return history.text()
+
+
+def of_java():
+    """A run as the SDK for Java records it: a version, a local activity and a side effect are markers, and a child is named by a
+    UUID."""
+    history = History()
+    history.add("WorkflowExecutionStarted", workflowType={"name": "SubscriptionWorkflow"})
+    history.task()
+    history.add("MarkerRecorded", markerName="Version", details={"changeId": {"payloads": [payload_of("trial")]}, "version": {"payloads": [payload_of(2)]}})
+    history.add("MarkerRecorded", markerName="LocalActivity", details={"type": {"payloads": [payload_of("ValidatePlan")]}, "result": {"payloads": [payload_of("ok")]}})
+    history.add("MarkerRecorded", markerName="SideEffect", details={"data": {"payloads": [payload_of("7f0a")]}})
+    child = {"workflowId": "2c0f6d1e-7a54-3d0b-9b1e-0d3b3ce6a001", "workflowType": {"name": "InvoiceWorkflow"}}
+    initiated = str(history.add("StartChildWorkflowExecutionInitiated", **child))
+    execution = {"workflowExecution": {"workflowId": child["workflowId"], "runId": "9d1f"}, "workflowType": child["workflowType"]}
+    started = str(history.add("ChildWorkflowExecutionStarted", initiatedEventId=initiated, **execution))
+    history.task()
+    history.add("ChildWorkflowExecutionCompleted", initiatedEventId=initiated, startedEventId=started, **execution)
+    history.task()
+    history.add("WorkflowExecutionCompleted")
+    return history.text()
+
+
+def of_python():
+    """A run as the SDK for Python records it: 80 charges of one type, one of which takes an hour, and one that fails; ids are
+    numbers."""
+    history = History()
+    history.add("WorkflowExecutionStarted", workflowType={"name": "BillCustomers"})
+    for number in range(1, 81):
+        history.task()
+        if number == 40:
+            scheduled = str(history.add("ActivityTaskScheduled", activityId="40", activityType={"name": "charge"}))
+            started = str(history.add("ActivityTaskStarted", scheduledEventId=scheduled, attempt=1))
+            history.start += datetime.timedelta(hours=1)
+            history.add("ActivityTaskCompleted", scheduledEventId=scheduled, startedEventId=started)
+        else:
+            activity(history, str(number), "charge", fails="no such card" if number == 60 else None)
+    history.task()
+    return history.text()
+
+
+def payload_of(value):
+    """A value as a payload of JSON."""
+    data = base64.b64encode(json.dumps(value).encode()).decode()
+    return {"metadata": {"encoding": base64.b64encode(b"json/plain").decode()}, "data": data}
+
+
+def activity(history, number, kind, fails=None):
+    """An activity that is scheduled, started, and completed or failed."""
+    scheduled = str(history.add("ActivityTaskScheduled", activityId=number, activityType={"name": kind}))
+    started = str(history.add("ActivityTaskStarted", scheduledEventId=scheduled, attempt=1))
+    ids = {"scheduledEventId": scheduled, "startedEventId": started}
+    if fails:
+        history.add("ActivityTaskFailed", failure={"message": fails}, **ids)
+    else:
+        history.add("ActivityTaskCompleted", **ids)
+
+
+def judge_sdk(page, name):
+    """What is wrong with the page of a run that an SDK recorded."""
+    wrong = []
+    tasks = {"go": 5, "typescript": 3, "java": 3, "python": 81}[name]
+    if len(page.tasks) != tasks:
+        wrong.append(f"{len(page.tasks)} tasks in place of {tasks}")
+    if name == "go" and not re.search(r'y="15">ChargeCard <tspan class="id">13</tspan></text>', page.html):
+        wrong.append("the picture does not name ChargeCard by its type")
+    if name == "go" and "ActivityTaskScheduled ChargeCard #13" not in "".join(page.texts):
+        wrong.append("no line names ChargeCard by its type")
+    if name == "python":
+        tops = set(re.findall(r'<g class="lane activity[^"]*" transform="translate\(0 (\d+)\)">', page.html))
+        if len(tops) != 1 or "80 times, 1 failed" not in "".join(page.texts):
+            wrong.append(f"80 charges stand at {tops}")
+    return wrong
+
+
+def crowd():
+    """A history of 400 activities of one type, of which a late one failed, the last is open, and one of the middle is slow."""
+    history = History()
+    history.add("WorkflowExecutionStarted", workflowType={"name": "Crowd"})
+    for number in range(1, 401):
+        history.task()
+        if number == 200:
+            history.start += datetime.timedelta(seconds=1)
+            scheduled = str(history.add("ActivityTaskScheduled", activityId="slow", activityType={"name": "Step"}))
+            history.start += datetime.timedelta(hours=1)
+            history.add("ActivityTaskCompleted", scheduledEventId=scheduled)
+        elif number < 400:
+            activity(history, f"step-{number}", "Step", fails="late" if number == 390 else None)
+    history.add("ActivityTaskScheduled", activityId="waits", activityType={"name": "Step"})
+    return history.text()
+
+
+def judge_crowd(page):
+    """What is wrong with the page of that: the things that failed, are open or are slow are shown."""
+    heads = [row["cells"][0] for row in page.rows]
+    wrong = [f"{name} is not shown" for name in ("step-390", "waits", "slow", "step-1") if f"Step {name}" not in heads]
+    return wrong + ([] if len(heads) == 300 else [f"{len(heads)} things"])
+
+
+def judge_promises(program, room):
+    """Yields what is wrong with the promises on pages of tables, beside what `check --json` says of them."""
+    broken = json.loads((TOP / "examples/broken/order.json").read_text())
+    hostile = dict(broken, promises=[*broken["promises"], HOSTILE])
+    none, many = dict(broken, promises=7), dict(broken, promises=["at most 3 activity ShipOrder"] * 51)
+    for name, table in (("promises", broken), ("hostile-promises", hostile), ("no-promises", none), ("many-promises", many)):
+        file = room / f"{name}.json"
+        file.write_text(json.dumps(table))
+        html = program.run("check", "--html", file).stdout.decode()
+        page, wrong = Page(html), []
+        listed = json.loads(program.run("check", "--json", file).stdout.decode().splitlines()[0])["promises"]
+        section = re.search(r'<h2>Promises</h2>\n<ol class="promises">\n(.*?)</ol>\n</section>', html, re.DOTALL)
+        given = re.findall(r'<li class="(kept|broken|undecided)"><span class="mark">(.*?)</span> <code>(.*?)</code>', section[1] if section else "")
+        words = {"kept": "kept", "broken": "broken"}
+        wanted = [words.get(one["verdict"], "undecided") for one in listed] if isinstance(listed, list) else ["undecided"]
+        if [found[0] for found in given] != wanted:
+            wrong.append(f"the page has {given}, check says {listed}")
+        wrong += [f"{found[0]} is marked {found[1]}" for found in given if found[1] != MARKS[found[0]]]
+        jobs = re.findall(r"<li><code>(.*?)</code>", section[1] if section else "")
+        told = [step["job"] for one in listed for step in one.get("scenario", [])] if isinstance(listed, list) else []
+        if jobs != told:
+            wrong.append(f"the page has the jobs {jobs}, check {told}")
+        wrong += [one for one in page.wrong if "href" not in one] + ([] if "\u240a" not in html or "hostile" in name else ["a line end as a picture"])
+        yield name, wrong
+
+
 def judge_way(page):
     """What is wrong with the table of a run that `tabled` makes."""
     section = page.html.partition('<h2 id="way">The table of this run</h2>')[2]
@@ -337,15 +512,22 @@ def judge_way(page):
     return wrong
 
 
-def drawing_of(html):
-    """The table of a run as a picture by itself: with the styles that it takes from its page, and the ground on which it stands."""
-    style, picture = re.search(r"<style>\n(.*?)</style>.*?(<svg class=\"marked\".*?</svg>\n)", html, re.DOTALL).groups()
-    taken = [line for line in style.splitlines() if re.match(r":root|@media \(prefers-color-scheme|svg(?: text)?\{", line)]
+def drawing_of(html, heading):
+    """A picture of a page by itself: with the styles that it takes from its page, and the ground on which it stands."""
+    style = re.search(r"<style>\n(.*?)</style>", html, re.DOTALL)[1]
+    picture = re.search(rf'<svg [^>]*aria-labelledby="{heading}".*?</svg>\n', html, re.DOTALL)[0]
+    own = re.search(r"<style>\n(.*?)</style>\n", picture, re.DOTALL)
+    # A picture with a style of its own takes colours and text alone.
+    taken = r":root|@media \(prefers-color-scheme|" + (r"svg(?: text)?\{" if own else "svg")
     # It is as large as the place that it is given.
-    taken = [re.sub(r"^svg\{.*?(?=font:)", "svg{", line) for line in taken]
-    picture = re.sub(r'(<svg )(class="marked" viewBox="[^"]*").*?>', r'\1xmlns="http://www.w3.org/2000/svg" \2>', picture, count=1)
-    picture = picture.replace(' id="way-words"', "", 1).replace("<style>\n", "<style>\n" + "\n".join(taken) + "\n", 1)
-    return picture.replace("</style>\n", '</style>\n<rect width="100%" height="100%" style="fill:var(--panel)"/>\n', 1)
+    styles = [re.sub(r"^svg\{.*?(?=font:)", "svg{", line) for line in style.splitlines() if re.match(taken, line)]
+    styles += own[1].splitlines() if own else []
+    parts = r"<svg (.*?) role=.*?>\n<desc[^>]*>(.*?)(?: The table below .*?)?</desc>\n(.*)"
+    start, words, rest = re.match(parts, picture, re.DOTALL).groups()
+    return "\n".join([
+        f'<svg xmlns="http://www.w3.org/2000/svg" {start}>', f"<desc>{words}</desc>", "<style>", *styles, "</style>",
+        '<rect width="100%" height="100%" style="fill:var(--panel)"/>', rest.replace(own[0], "", 1) if own else rest,
+    ])
 
 
 def uneven(record):
@@ -482,6 +664,7 @@ def histories():
     """The histories that are tried, by name, as texts."""
     texts = {name: json.dumps(whole) for name, whole in edited()}
     second = ("ActivityTaskScheduled", {"activityId": "2", "activityType": {"name": "more"}})
+    texts |= {"go": of_go(), "typescript": of_typescript(), "java": of_java(), "python": of_python(), "crowd": crowd()}
     texts |= {"no-event": uneven([]), "other": uneven([second]), "crowded": crowded()}
     texts |= {name: named(given) for name, given in NAMES.items()} | {"big": big()}
     worded = [one[:60].replace(" ", "_") for one in NAMES["hostile"]]
@@ -502,6 +685,10 @@ def trials(program, room, pages, has_sizes):
             like = {"hostile": "plain", "hostile-table": "table"}.get(name)
             if like and page.tags != pages[like + "-recorded" * recorded].tags:
                 faults.append("other tags than with plain names")
+            if name in ("go", "typescript", "java", "python"):
+                faults += judge_sdk(page, name)
+            if name == "crowd":
+                faults += judge_crowd(page)
             if name in ("table", "hostile-table") and not recorded:
                 faults += judge_way(page)
             elif "way" in page.ids:
@@ -509,6 +696,11 @@ def trials(program, room, pages, has_sizes):
             yield key, faults
             if has_sizes:
                 print(f"{key}: {len(text.encode()):,} bytes of history, {len(page.html.encode()):,} of page, {took:.2f} s")
+    yield from judge_promises(program, room)
+    with (room / "go.json").open() as file:
+        made = subprocess.run([program.path, "explain", "--html", "--recorded", "-"], stdin=file, stdout=subprocess.PIPE, timeout=300)
+    title = Page(made.stdout.decode()).parts["title"]
+    yield "standard input", "" if title == "OrderWorkflow" else f"the title is {title!r}"
     for bad, text in (("no-json", "{"), ("no-events", "{}")):
         file = room / f"{bad}.json"
         file.write_text(text)
@@ -518,12 +710,13 @@ def trials(program, room, pages, has_sizes):
 
 
 def shown(program, draws):
-    """The picture of docs/, with what is wrong with it; it is drawn anew if that is asked for."""
-    drawing = drawing_of(program.run("explain", "--html", RUN).stdout.decode())
-    if draws:
-        DRAWING.write_text(drawing)
-    is_right = DRAWING.read_text() == drawing
-    return DRAWING.name, "" if is_right else f"it is not the picture of {RUN}: --draw writes it"
+    """Yields each picture of docs/pictures, with what is wrong with it; it is drawn anew if that is asked for."""
+    for name, (words, heading) in DRAWINGS.items():
+        file, drawing = TOP / f"docs/pictures/{name}.svg", drawing_of(program.run(*words).stdout.decode(), heading)
+        if draws:
+            file.write_text(drawing)
+        is_right = file.read_text() == drawing
+        yield file.name, "" if is_right else f"it is not the picture of {' '.join(map(str, words))}: --draw writes it"
 
 
 def main():
@@ -538,7 +731,7 @@ def main():
     if "--html" not in program.run("explain", "--help").stdout.decode():
         parser.error("the program makes no pages")
     with tempfile.TemporaryDirectory() as room:
-        rows = chain(trials(program, Path(room), pages, asked.sizes), [shown(program, asked.draw)])
+        rows = chain(trials(program, Path(room), pages, asked.sizes), shown(program, asked.draw))
         status = try_rows(rows, asked)
     if asked.shots and shutil.which("chromium"):
         shoot({name: pages[name] for name in ("nap", "racer-id-6", "crowded", "hostile", "big", "table") if name in pages}, asked.shots)

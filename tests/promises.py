@@ -1,11 +1,11 @@
 #!/usr/bin/env python3
 """Looks for promises of tables that are decided wrongly.
 
-Makes random tables and promises, decides each as `crates/wh_rows/specs/Deciding.antt` does, and tries scenarios of up to
-10 jobs on the table, by the interpreter of tests/table_rows.py, which follows docs/WORKFLOWS-WITHOUT-CODE.md. A promise is wrong
-that holds by the first and is broken by a scenario, and a way that breaks a promise by the first and does not when it is tried,
-or that is longer than a scenario which breaks it. Four faults are then put into the deciding, one after another, and each has to
-be found.
+Makes random tables and promises, decides each as `crates/wh_rows/specs/Deciding.antt` does, and tries scenarios of up to 10
+jobs on the table, by the interpreter of tests/table_rows.py, which follows docs/write/WORKFLOWS-WITHOUT-CODE.md. A promise is
+wrong that holds by the first and is broken by a scenario, and a way that breaks a promise by the first and does not when it is
+tried, or that is longer than a scenario which breaks it. Four faults are then put into the deciding, one after another, and
+each has to be found.
 
 What is decided here is a second writing of the definition, not the definition itself, of which the law
 `keeps_its_promises` is proved: so this tells of the meaning of rows and promises, and not of the prover.

@@ -1,5 +1,5 @@
 #!/usr/bin/env python3
-"""A worker for activities alone, over gRPC, without an SDK: what docs/WORKFLOWS-WITHOUT-CODE.md does with one, as far as the
+"""A worker for activities alone, over gRPC, without an SDK: what docs/write/WORKFLOWS-WITHOUT-CODE.md does with one, as far as the
 server sees it. It takes the tasks of one Task Queue and completes each with a text, or fails those of the types that --fails
 names. It ends with its input.
 

@@ -15,9 +15,9 @@ late, responses that are lost, pages that are refused, events of unknown types, 
 is not there, where it has to end by itself.
 It asks for what only a server can tell: whether the details of a heartbeat come back in a later attempt, which the bridge hands on
 and the program's handler reads; whether queries come with the tasks of a busy run, whose answers have to be of the state that the
-task leaves; what becomes of payloads of a codec, which go to an activity and to a child workflow and back, of the header of a run's
-start, of an update and of an answer that is too large; what it says of a policy that only it can refuse, and with --api-key-file of
-a bad key.
+task leaves; what becomes of payloads of a codec, which go to an activity and to a child workflow and back, of the headers of a run's
+start and of a signal, of an update and of an answer that is too large; what it says of a policy that only it can refuse, and with
+--api-key-file of a bad key.
 Then it fetches each history by GetWorkflowExecutionHistory, writes it to a file in the form of the Temporal CLI, and
 replays the folder with the program. The last line is `N runs, N closed, 0 wrong`, and the exit status is 1 if anything is
 wrong. Children, and runs that continue others as new, count as runs too. It uses task queues and workflow ids of its own,
@@ -155,8 +155,9 @@ def asks_for(kind):
 
 
 def has_child(name):
-    """The table of a run that hands its input on to a child of this id, and has the child's result."""
-    return table_of([["asked", "start", "", f"child {name} Table input"], ["asked", f"child-done {name}", "", "complete brought"]])
+    """The table of a run that hands its input on to a child of this id when a signal comes, and has the child's result."""
+    waits, asks = ["asked", "start", "", "timer end 86400"], ["asked", "signal go", "", f"child {name} Table input"]
+    return table_of([waits, asks, ["asked", f"child-done {name}", "", "complete brought"]])
 
 
 def tells_of(told, kind, queries):
@@ -166,10 +167,11 @@ def tells_of(told, kind, queries):
     return [found.get("type"), *names] == [kind, queries, DECLARED.get(kind, [])]
 
 
-def header_of(client):
-    """The header of a run that is traced."""
+def header_of(client, **values):
+    """The header of a run or a signal that is traced, with a field for each value."""
     header = client.messages.StartWorkflowExecutionRequest().header
-    header.fields["trace"].metadata["encoding"], header.fields["trace"].data = b"json/plain", b'"00-1a2b"'
+    for name, value in values.items():
+        header.fields[name].metadata["encoding"], header.fields[name].data = b"json/plain", json.dumps(value).encode()
     return header
 
 
@@ -607,7 +609,7 @@ class Trouble(Part):
     def payloads_of_a_codec(self):
         """A payload of a codec goes through a table with all its metadata, and the header of the start to an activity. That one is of
         a type that nobody knows: it fails with a failure of a type, and is not tried again."""
-        header = header_of(self.client)
+        header = header_of(self.client, trace="00-1a2b")
         execution = self.start("Table", table_of(HANDS_ON), coded=[CODED], header=header)
         self.are_closed([execution])
         coded = self.in_json(CODED)
@@ -619,10 +621,14 @@ class Trouble(Part):
         self.see("the failure", failure.get("applicationFailureInfo"), {"type": "NotFoundError", "nonRetryable": True})
 
     def children_of_a_codec(self):
-        """A child workflow gets payloads of a codec with all their metadata, and the header of the start. Its result comes back."""
-        header, name = header_of(self.client), f"{self.queue}-child"
-        execution = self.start("Table", has_child(name), table_of(GIVES_BACK), coded=[CODED, TYPED], header=header)
+        """A child workflow gets payloads of a codec with all their metadata, and the header: of each field the value that came last,
+        with the start or with a signal. Its result comes back."""
+        first, name = header_of(self.client, trace="00-1a2b", tenant="shop"), f"{self.queue}-child"
+        execution = self.start("Table", has_child(name), table_of(GIVES_BACK), coded=[CODED, TYPED], header=first)
+        self.wait("the run waits for a signal", lambda: "TIMER_STARTED" in self.types(execution))
+        self.client.signal(execution, "go", header=header_of(self.client, trace="00-3c4d", baggage="spring"))
         self.are_closed([execution])
+        header = header_of(self.client, trace="00-3c4d", tenant="shop", baggage="spring")
         ids = self.attributes(execution, "CHILD_WORKFLOW_EXECUTION_STARTED").get("workflowExecution", {})
         begun = self.attributes({"workflow_id": name, "run_id": ids.get("runId", "")}, "WORKFLOW_EXECUTION_STARTED")
         self.see("the header of a child", begun.get("header"), self.client.json.MessageToDict(header))
@@ -720,7 +726,7 @@ class Policies(Part):
     def keep_metadata(self):
         """An activity gets a payload of a codec with all its metadata, and the header of the run's start. Its result comes back with
         the metadata that it has: also the data that it was given, under a key that has turned."""
-        header = header_of(self.client)
+        header = header_of(self.client, trace="00-1a2b")
         execution = self.start("Table", asks_for("Keep"), coded=[CODED], header=header)
         task = self.poll(f"{self.trial.queue}-keep")
         self.see("the input of an activity", [{"metadata": dict(one.metadata), "data": one.data} for one in task.input.payloads], [CODED])

@@ -7,8 +7,8 @@ standin/courses.py, so it shows that the stand-in works, before there is a worke
 
 Its options are those of `work` that tests/loops.py gives. `--wrong KIND` makes a mistake now and then, which the stand-in
 has to find (tests/stand_in.py): a state that the run is not in, commands without the first one, a query without an answer
-(`silent`), payloads without a codec's `metadata`, a retry `policy` that no server takes, a beat by the token of another task
-(`beat`) or of none (`token`), and one that hears of a cancel and goes on (`taken`)."""
+(`silent`), payloads without a codec's `metadata`, the `header` of a run's start alone, a retry `policy` that no server takes, a
+beat by the token of another task (`beat`) or of none (`token`), and one that hears of a cancel and goes on (`taken`)."""
 
 import argparse
 import base64
@@ -23,6 +23,7 @@ sys.path[:0] = [str(TOP / "standin"), str(TOP / "tests")]
 sys.dont_write_bytecode = True
 
 from courses import Course, Fault, built_in, handed_on, noted_in, payloads_in  # noqa: E402
+from history import header_after  # noqa: E402
 from programs import PROGRAMS  # noqa: E402
 from table_runs import TableProgram  # noqa: E402
 
@@ -335,7 +336,9 @@ class Worker:
     def written(self, command, events):
         """A command as JSON."""
         kind, words = command[0], command[1:]
-        queue, header = {"name": self.options.task_queue}, started(events, "header")
+        queue = {"name": self.options.task_queue}
+        found = header_after(events[:1] if self.is_wrong("header") else events)
+        header = {"header": found} if found else {}
         kinds = {
             "StartActivity": lambda: ("SCHEDULE_ACTIVITY_TASK", {
                 "activityId": words[0], "activityType": {"name": words[1]}, "input": self.listed(words[2]), "retryPolicy": self.policy(),

@@ -28,6 +28,7 @@ ROWS = [
     ("--tables --runs 100 --trouble all --queries --till", "", "1 tried, 0 wrong"),
     ("--tables --runs 60 --trouble metadata", "", "1 tried, 0 wrong"),
     ("--tables --runs 400 --trouble metadata", "metadata", "it gives"),
+    ("--tables --runs 400 --trouble metadata", "header", "the header is"),
     ("--tables --runs 60 --trouble none --queries", "state", "and not by one of"),
     ("--orders --runs 60 --trouble none --queries", "state", "and not by one of"),
     ("--tables --runs 60 --trouble none", "commands", "it gives"),

@@ -1,8 +1,8 @@
 #!/usr/bin/env python3
 """Starts the built program in the ways that no contract speaks of, and compares its status and both streams with what
-docs/USAGE.md and docs/DEFINITIONS.md say. The commands that pages show are run as they stand there. The tables of rows stand in
-the folder statuses/, by their subjects. It is a part of `./test`: its last line is `N tried, M wrong`, and its status is 1 where
-something is wrong."""
+docs/use/USAGE.md and docs/judge/DEFINITIONS.md say. The commands that pages show are run as they stand there. The tables of
+rows stand in the folder statuses/, by their subjects. It is a part of `./test`: its last line is `N tried, M wrong`, and its
+status is 1 where something is wrong."""
 
 import os
 import sys
@@ -13,7 +13,8 @@ from pathlib import Path
 
 from rows import PROGRAM, need, pick, try_rows, words_of
 from statuses import (
-    command_lines, counts, files, policies, progress, queries, reports, services, shown, streams, tables, values, views,
+    command_lines, counts, deploys, files, policies, progress, queries, reports, sdk_runs, services, shown, streams, tables, values,
+    views,
 )
 from statuses.rooms import Room
 from statuses.runs import compared
@@ -26,6 +27,7 @@ TABLES = [
     progress.progress,
     values.strict_values,
     views.views,
+    sdk_runs.sdk_runs,
     tables.tables,
     queries.queries,
     files.files,
@@ -36,6 +38,7 @@ TABLES = [
     streams.sizes,
     streams.streams,
     shown.shown,
+    deploys.open_runs,
 ]
 # These start the program themselves.
 MEASURES = [counts.kept_counts, progress.terminals, services.cache_options, services.worker_options, services.short_memory]

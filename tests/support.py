@@ -242,8 +242,8 @@ class Client:
             raise Wrong(f"there is no such namespace: {self.namespace}")
         return {"workflow_id": workflow_id, "run_id": made.run_id}
 
-    def signal(self, execution, name):
-        same = {"workflow_execution": execution, "identity": self.identity, "request_id": str(uuid.uuid4())}
+    def signal(self, execution, name, **more):
+        same = {"workflow_execution": execution, "identity": self.identity, "request_id": str(uuid.uuid4()), **more}
         self.call("SignalWorkflowExecution", signal_name=name, **same)
 
     def request_cancel(self, execution):

@@ -1,6 +1,6 @@
 """Tables of rows, read and followed by themselves: what a workflow of the type Table has to do, without its code.
 
-docs/WORKFLOWS-WITHOUT-CODE.md says what a table means. This is written from that page alone, so that tests can compare."""
+docs/write/WORKFLOWS-WITHOUT-CODE.md says what a table means. This is written from that page alone, so that tests can compare."""
 
 import json
 from typing import NamedTuple, Tuple

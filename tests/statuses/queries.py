@@ -1,10 +1,10 @@
-"""Queries of histories: of a race, of a table, and by the program of orders of its orders, with what each says by its
-definition."""
+"""Queries of histories: of a race, of a table, and by the program of orders of its orders and of samples in rows, with what each
+says by its definition."""
 
 import base64
 import json
 
-from .rooms import NAP, NOT_JSON, RACER, TOP, up_to
+from .rooms import EXAMPLES, NAP, NOT_JSON, RACER, TOP, up_to
 from .runs import Like
 from .texts import MISSING, OTHER_TYPE, cannot_read
 
@@ -127,6 +127,16 @@ def of_orders(room):
     ]
 
 
+def of_rows(room):
+    """What samples in rows say of histories that the same in code made, and of their state."""
+    folder = room.folder({"family.json": (EXAMPLES / "family.json").read_bytes(), "nap.json": NAP})
+    how = {"program": ORDERS, "called": "orders"}
+    return [
+        (["replay", folder], 0, "family.json: ok, 3 tasks\nnap.json: ok, 2 tasks\n2 files, 2 ok\n", "", how),
+        (["query", f"{folder}/nap.json", "state"], 0, 'nap.json: ok, 2 tasks\n"asleep"\n', "", how),
+    ]
+
+
 def of_tables(room):
     """What a run that brought its table says of its state."""
     rested = order(RESTED)
@@ -160,6 +170,7 @@ def queries(room):
     not_json = "wfhost: the arguments of a query must be JSON\n"
     return [
         *of_orders(room),
+        *of_rows(room),
         *of_tables(room),
         (phase, 0, done, ""),
         (["query", "-", "phase"], 0, done.replace("race.json", "-"), "", {"given": RACER}),

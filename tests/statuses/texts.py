@@ -1,6 +1,6 @@
 """What the program writes in rows of more than one table."""
 
-VERSION = "wfhost 0.1.0\n"
+VERSION = "wfhost 0.2.0\n"
 NO_COMMAND = "error: a command is needed\n\nUsage: wfhost [COMMAND]\n\nFor more information, try '--help'.\n"
 FEW_SLOTS = "wfhost: slots must be at least workers\n"
 NOT_TAKEN = "wfhost: cannot write\n"

@@ -6,12 +6,15 @@ from .rooms import NAP, NOT_JSON
 from .runs import Like
 from .texts import EXPLAINED, MISSING, cannot_read
 
-HEAD = "Nap: 10 events, 2 tasks completed, 1 things\n"
+NAMES = "workflow id not recorded, run id not recorded, Task Queue not recorded, no parent\n"
+HEAD = f"""Nap: 10 events, 2 tasks completed, 1 things
+{NAMES}Completed (event 10) 2024-05-01T10:01:09Z, after 1 min 8 s
+"""
 FIRST_TASK = """  told WorkflowExecutionStarted Nap (event 1) 2024-05-01T10:00:01Z
 task 1: WorkflowTaskCompleted (event 4) 2024-05-01T10:00:04Z
   gives TimerStarted nap (event 5) 2024-05-01T10:00:05Z, ended (event 6)
 """
-SECOND_TASK = """  told TimerFired nap (event 6) 2024-05-01T10:01:05Z, opened (event 5)
+SECOND_TASK = """  told TimerFired nap (event 6) 2024-05-01T10:01:05Z, opened (event 5), took 1 min
 task 2: WorkflowTaskCompleted (event 9) 2024-05-01T10:01:08Z
   gives WorkflowExecutionCompleted (event 10) 2024-05-01T10:01:09Z
 """
@@ -23,15 +26,17 @@ TASKS = [
     for number in range(1, 8)
 ]
 # That of event 4, with two before and two after it.
-VIEWED_AROUND = """: 7 events, 7 tasks completed, 0 things
+VIEWED_AROUND = f""": 7 events, 7 tasks completed, 0 things
+{NAMES}Running
 task 2: WorkflowTaskCompleted (event 2) 2024-05-01T10:00:02Z
 task 3: WorkflowTaskCompleted (event 3) 2024-05-01T10:00:03Z
 task 4: WorkflowTaskCompleted (event 4) 2024-05-01T10:00:04Z
 task 5: WorkflowTaskCompleted (event 5) 2024-05-01T10:00:05Z
 task 6: WorkflowTaskCompleted (event 6) 2024-05-01T10:00:06Z
 2 events of other tasks are left out
+running; nothing that it started is open
 """
-VIEWED_AS_JSON = """{"events":7,"tasks":7,"things":0}
+VIEWED_AS_JSON = """{"events":7,"tasks":7,"things":0,"run":{"status":"Running"}}
 {"place":7,"event":7,"task":7,"is":"completes","recorded":{"eventId":"7","eventTime":"2024-05-01T10:00:07Z","eventType":"WorkflowTaskCompleted"}}
 """
 TWICE = "error: --all, --around and --last can't be given together\n"
@@ -101,7 +106,7 @@ def views(room):
         ([*show, nap, "--last", "67108864"], 0, VIEWED, ""),
         ([*show, "--around", "4", tasks], 0, VIEWED_AROUND, ""),
         ([*show, "--around", "9", nap], 0, VIEWED, ""),
-        ([*show, "--around", "11", nap], 0, f"{HEAD}10 events of other tasks are left out\n", ""),
+        ([*show, "--around", "11", nap], 0, f"{HEAD}no event 11, the last is (event 10)\n10 events of other tasks are left out\n", ""),
         ([*show, "--json", "--last", "1", tasks], 0, VIEWED_AS_JSON, ""),
         ([*show, f"{folder}/cut.json"], 2, "", "wfhost: cut.json: not JSON at line 2 column 3\n"),
         ([*show, f"{folder}/empty.json"], 2, "", "wfhost: empty.json: unreadable, no events\n"),

@@ -1,4 +1,5 @@
 pub mod Inbox
 pub mod Labels
 pub mod Payloads
+pub mod Steps
 pub mod Till

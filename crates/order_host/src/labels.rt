@@ -38,7 +38,7 @@ pub(crate) struct Printing {
 }
 
 /// Returns whether no more labels are needed after such a response.
-fn stops(response: HeartbeatResponse) -> bool
+pub(crate) fn stops(response: HeartbeatResponse) -> bool
     ensures { result ≡ stops response }
 {
     match response {

@@ -21,7 +21,7 @@ pub struct Till {
 }
 
 /// Returns the failure of labels that are needed no more, with a type for retry policies.
-fn called_off(alloc: Global) -> Result<ActivityFailure, OutOfMemory>
+pub(crate) fn called_off(alloc: Global) -> Result<ActivityFailure, OutOfMemory>
     ensures { IfOk result (λ failure. failure ≡ called_off) }
 {
     let message = text_of(alloc, "called off")?;

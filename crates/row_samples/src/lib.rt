@@ -19,5 +19,5 @@ pub use plan::{PLAN, Plan, PlanTable, charges_twelve_times_at_most};
 pub use subscription::{SUBSCRIPTION, Subscription, SubscriptionTable, charges_36_times_at_most};
 use wh_workflow::Pair;
 
-/// All of them, by workflow type.
-pub type All = Pair<Nap, Pair<Family, Pair<Order, Pair<Plan, Pair<Subscription, Booking>>>>>;
+/// All of them but `Order`, by workflow type, for a program that has orders in code.
+pub type AllButOrder = Pair<Nap, Pair<Family, Pair<Plan, Pair<Subscription, Booking>>>>;

@@ -53,7 +53,10 @@ fn obey<W: Queryable, R: Runtime + AllocGlobal, O: Write, E: Write>(
             format,
         } => query_path::<W, R, O, E>(rt, file, query_type, input, format, types, console),
         Plan::Help { text } => print(text.get(), console),
-        _ => Ok(lack(COMMANDS, console)),
+        other => {
+            drop(other);
+            Ok(lack(COMMANDS, console))
+        }
     }
 }
 

@@ -40,7 +40,10 @@ where
             replay_paths::<W, R, O, E>(rt, dir, more, options, types, console)
         }
         Plan::Help { text } => print(text.get(), console),
-        _ => Ok(lack(COMMANDS, console)),
+        other => {
+            drop(other);
+            Ok(lack(COMMANDS, console))
+        }
     }
 }
 

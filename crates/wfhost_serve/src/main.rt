@@ -44,7 +44,10 @@ where
             progress,
         } => serve_folder::<W, R, O, E>(rt, dir, options, require_files, progress, types, console),
         Plan::Help { text } => print(text.get(), console),
-        _ => Ok(lack(COMMANDS, console)),
+        other => {
+            drop(other);
+            Ok(lack(COMMANDS, console))
+        }
     }
 }
 

@@ -10,7 +10,6 @@ use Rattle.wh_diagnostics.specs.Printing.{HasPrinted, IsRefused}
 use Rattle.wh_diagnostics.specs.declared.failures.Failure.{Failure}
 use Rattle.wh_diagnostics.specs.declared.failures.Failure.TheVariants.{Output}
 use Rattle.wh_diagnostics.specs.Commands.{HasLacked}
-use Rattle.wh_table_commands.specs.Finds.{Finds}
 use Rattle.wh_table_commands.specs.Checks.{HasCheckedPaths, HasNotCheckedPaths}
 use Rattle.wh_table_commands.specs.Pictures.{HasDrawn}
 use Rattle.wh_table_commands.specs.Refusals.{IsUntried}
@@ -18,8 +17,8 @@ use Rattle.wh_table_commands.specs.Trials.{HasTried}
 
 -- what a plan asks for was done, or that the program lacks its command was reported
 abbrev pub Obeys : Plan → (old new : ConsoleView) → (status : ℕ) → Type 0
-Obeys (Check file more format) old new status = HasCheckedPaths Finds format file more.items old new status
-Obeys (Picture file) old new status = HasCarriedOut IsReadFrom (HasDrawn Finds) file old new status
+Obeys (Check file more format) old new status = HasCheckedPaths format file more.items old new status
+Obeys (Picture file) old new status = HasCarriedOut IsReadFrom HasDrawn file old new status
 Obeys (Try file scenario) old new status =
     HasCarriedOut IsReadFrom (HasTried IsReadFrom file scenario) file old new status
 Obeys (Help text) old new status = HasPrinted text 0 old new status

@@ -14,7 +14,7 @@ use wh_diagnostics::{
     Failure, UNCALLED, fail, fail_under, lack, output, plan, print, program_name, words,
 };
 use wh_sample_workflows::types;
-use wh_table_commands::{Promises, check_paths, picture_path, try_path};
+use wh_table_commands::{check_paths, picture_path, try_path};
 
 /// What the commands are called.
 const COMMANDS: &str = "the commands check and try";
@@ -31,12 +31,15 @@ fn obey<R: Runtime + AllocGlobal, O: Write, E: Write>(
 {
     match plan {
         Plan::Check { file, more, format } => {
-            check_paths::<Promises, R, O, E>(rt, file, more, format, console)
+            check_paths::<R, O, E>(rt, file, more, format, console)
         }
-        Plan::Picture { file } => picture_path::<Promises, R, O, E>(rt, file, console),
+        Plan::Picture { file } => picture_path::<R, O, E>(rt, file, console),
         Plan::Try { file, scenario } => try_path::<R, O, E>(rt, file, scenario, console),
         Plan::Help { text } => print(text.get(), console),
-        _ => Ok(lack(COMMANDS, console)),
+        other => {
+            drop(other);
+            Ok(lack(COMMANDS, console))
+        }
     }
 }
 

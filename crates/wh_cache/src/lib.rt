@@ -24,13 +24,8 @@ pub use weighing::MOST_WEIGHT;
 use weighing::{Weighed, weight_of};
 use wh_events::{Items, OutOfMemory, RunKey};
 use wh_replay::{ReplayedHistory, Run};
+pub use wh_slots::{MOST_CACHED_EVENTS, MOST_RUNS};
 use wh_workflow::Workflow;
-
-/// The most runs that a cache may hold.
-pub const MOST_RUNS: usize = 10_000;
-
-/// The largest bound on the weight of the cached runs together.
-pub const MOST_CACHED_EVENTS: u64 = 512_000_000;
 
 /// What became of a run that was put into the cache. The last four return the run and leave the
 /// cache as it was.

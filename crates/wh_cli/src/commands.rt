@@ -1,44 +1,62 @@
 //! Each plan, and the command that carries it out.
 
 ghost use Rattle.std.specs.Prelude.{◌≡◌, IfErr, IfOk};
-ghost use Rattle.wh_cli.specs.Private.Commands.{HasWorked, IsUndone, IsWorkFailure, Obeys, plan_failure};
+ghost use Rattle.wh_cli.specs.Private.Commands.{HasWorked, IsPlanFailure, IsUndone, IsWorkFailure, Obeys};
 ghost use Rattle.wh_command_line.specs.Options.{IsWithinLimits, IsWithinWorkLimits};
 ghost use Rattle.wh_work.specs.Plans.{MayServe, lives};
 
+use std::alloc::Global;
 use std::io::Write;
 use std::rt::{Files, Runtime};
 use std::sync::Wait;
 use std::thread::Threads;
 use wh_command_line::{Plan, WorkOptions};
 use wh_console::Console;
+use wh_crew::LiveEnd;
 use wh_diagnostics::{Failure, print};
-use wh_events::OutOfMemory;
+use wh_events::{OutOfMemory, Text};
 use wh_file_commands::{explain_path, page_path, query_path, view_path};
 use wh_replay_command::replay_paths;
 use wh_service_command::serve_folder;
-use wh_table_commands::{Promises, check_paths, picture_path, try_path};
-use wh_work::{LivePlan, LiveReport, PlanFault, WorkEnd, live_plan, live_status};
+use wh_table_commands::{check_paths, picture_path, try_path};
+use wh_work::{
+    BadPolicies, LivePlan, LiveReport, PlanFault, PolicyFaultText, live_plan, live_status,
+};
 use wh_workflow::Queryable;
 
+/// Returns that a file gives no policies, and why not, in words. `OutOfMemory` if there is no
+/// memory for these.
+fn refuse_policies(alloc: Global, bad: BadPolicies) -> Failure
+    ensures { IsPlanFailure (PlanFault.BadPolicies bad) result }
+{
+    let BadPolicies { path, fault } = bad;
+    let words = PolicyFaultText(&fault);
+    match format!(in alloc; "{words}") {
+        Ok(words) => Failure::BadPolicies {
+            file: path,
+            why: Text::new(words),
+        },
+        Err(_refused) => Failure::OutOfMemory,
+    }
+}
+
 /// Returns why there is no full report, from why there is no plan to serve live tasks.
-fn failure_of(fault: PlanFault) -> Failure
-    ensures { result ≡ plan_failure fault }
+fn failure_of(alloc: Global, fault: PlanFault) -> Failure
+    ensures { IsPlanFailure fault result }
 {
     match fault {
         PlanFault::Unread { fault } => Failure::from(fault),
-        PlanFault::BadPolicies { bad } => Failure::BadPolicies {
-            file: bad.path,
-            fault: bad.fault,
-        },
+        PlanFault::BadPolicies { bad } => refuse_policies(alloc, bad),
         PlanFault::BadMetrics { text } => Failure::BadLine { text },
         PlanFault::OutOfMemory => Failure::OutOfMemory,
     }
 }
 
 /// Serves live tasks as options ask for, reports how they ended, and gives the status.
+#[tactic(auto, using(crate::proofs::Failing::work_failed, crate::proofs::Failing::work_full))]
 fn work<
     R: Files + AllocGlobal,
-    F: FnOnce(LivePlan) -> Result<WorkEnd, OutOfMemory>,
+    F: FnOnce(LivePlan) -> Result<LiveEnd, OutOfMemory>,
     O: Write,
     E: Write,
 >(rt: &R, options: WorkOptions, live: F, console: &mut Console<'_, O, E>) -> Result<u8, Failure>
@@ -54,7 +72,7 @@ where
         Ok(plan) => plan,
         Err(fault) => {
             drop(live);
-            return Err(failure_of(fault));
+            return Err(failure_of(rt.alloc(), fault));
         }
     };
     let format = plan.format;
@@ -73,7 +91,7 @@ pub(crate) fn obey<
     R: Runtime + AllocGlobal + Threads + Wait + Sync,
     O: Write,
     E: Write,
-    F: FnOnce(LivePlan) -> Result<WorkEnd, OutOfMemory>,
+    F: FnOnce(LivePlan) -> Result<LiveEnd, OutOfMemory>,
 >(rt: &R, types: &str, plan: Plan, live: F, console: &mut Console<'_, O, E>) -> Result<u8, Failure>
 where
     R::File: Send,
@@ -110,9 +128,9 @@ where
             format,
         } => query_path::<W, R, O, E>(rt, file, query_type, input, format, types, console),
         Plan::Check { file, more, format } => {
-            check_paths::<Promises, R, O, E>(rt, file, more, format, console)
+            check_paths::<R, O, E>(rt, file, more, format, console)
         }
-        Plan::Picture { file } => picture_path::<Promises, R, O, E>(rt, file, console),
+        Plan::Picture { file } => picture_path::<R, O, E>(rt, file, console),
         Plan::Try { file, scenario } => try_path::<R, O, E>(rt, file, scenario, console),
         Plan::Serve {
             dir,

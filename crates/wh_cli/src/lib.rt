@@ -7,7 +7,7 @@ mod listening;
 mod program;
 
 pub use listening::read_input;
-pub use program::{run_with_heartbeats, run_with_types};
+pub use program::run_with_types;
 pub use wh_diagnostics::no_memory;
-pub use wh_poll::NoActivities;
+pub use wh_tasks::{NoActivities, WithoutHeartbeat};
 pub use wh_work::calls_over;

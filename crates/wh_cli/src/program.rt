@@ -4,7 +4,7 @@ ghost use Rattle.std.specs.Prelude.{◌≡◌, ◌≤◌, map, string_bytes};
 ghost use Rattle.std.specs.Process.{exit_status};
 ghost use Rattle.wh_cli.specs.Private.Commands.{IsUndone, Obeys};
 ghost use Rattle.wh_work.specs.Plans.{MayServe, lives};
-ghost use Rattle.wh_host.specs.Machine.{IsConfig};
+ghost use Rattle.wh_slots.specs.Sizes.{IsConfig};
 ghost use Rattle.wh_diagnostics.specs.Answers.{Answers, AskForNothing};
 
 use crate::commands::obey;
@@ -14,12 +14,12 @@ use std::rt::Runtime;
 use std::sync::Wait;
 use std::thread::Threads;
 use wh_console::{Console, ErrorPrinter};
+use wh_crew::LiveEnd;
 use wh_diagnostics::{UNCALLED, fail, fail_under, output, plan, program_name, words};
 use wh_events::OutOfMemory;
-use wh_poll::ActivityHandler;
 use wh_rpc::Caller;
-use wh_tasks::{HeartbeatHandler, WithoutHeartbeat};
-use wh_work::{FileReplacer, LivePlan, WorkEnd, serve_calls};
+use wh_tasks::HeartbeatHandler;
+use wh_work::{FileReplacer, LivePlan, serve_calls};
 use wh_workflow::Queryable;
 
 /// Does what the words of the command line ask for, or reports why there is no full report, and
@@ -29,7 +29,7 @@ fn answer<
     R: Runtime + AllocGlobal + Threads + Wait + Sync,
     O: Write,
     E: Write,
-    F: FnOnce(LivePlan) -> Result<WorkEnd, OutOfMemory>,
+    F: FnOnce(LivePlan) -> Result<LiveEnd, OutOfMemory>,
 >(rt: &R, types: &str, words: &[String], live: F, console: &mut Console<'_, O, E>) -> u8
 where
     R::File: Send,
@@ -53,7 +53,7 @@ where
 fn run_words<
     W: Queryable + Send,
     R: Runtime + AllocGlobal + Threads + Wait + Sync,
-    F: FnOnce(LivePlan) -> Result<WorkEnd, OutOfMemory>,
+    F: FnOnce(LivePlan) -> Result<LiveEnd, OutOfMemory>,
 >(rt: &R, types: &str, words: &[String], live: F) -> u8
 where
     R::File: Send,
@@ -93,7 +93,7 @@ where
     ensures refused { AskForNothing (map string_bytes words.now) → result ≡ 2 }
 {
     let name = program_name(words);
-    let live = |plan: LivePlan| -> Result<WorkEnd, OutOfMemory>
+    let live = |plan: LivePlan| -> Result<LiveEnd, OutOfMemory>
         requires sizes { IsConfig plan.config }
         requires listens { L.IsAlwaysCallable listen }
         requires makes { M.IsAlwaysCallable make }
@@ -114,10 +114,10 @@ where
 /// Live tasks are asked for and answered over the calls. Before the first of them `listen` is
 /// called, which has to start a thread that reads the other end by `read_input`, and says whether
 /// it could; that thread is not waited for. `make` makes the handler of each worker, which runs
-/// activities and may send heartbeats while it does.
+/// activities and may send heartbeats while it does: a `WithoutHeartbeat`, if it sends none.
 ///
 /// The status is one of the documented ones, 0 to 3.
-pub fn run_with_heartbeats<
+pub fn run_with_types<
     W: Queryable + Send,
     R: Runtime + AllocGlobal + Threads + Wait + Sync,
     C: Caller + Sync,
@@ -139,28 +139,4 @@ where
         Err(failure) => return ExitCode::from(fail_under(rt, UNCALLED, failure)),
     };
     ExitCode::from(run_over::<W, R, C, L, B, M>(rt, types, words.as_slice(), calls, listen, make))
-}
-
-/// Runs the program as `run_with_heartbeats` does, with handlers that send no heartbeats.
-pub fn run_with_types<
-    W: Queryable + Send,
-    R: Runtime + AllocGlobal + Threads + Wait + Sync,
-    C: Caller + Sync,
-    L: FnOnce() -> bool,
-    A: ActivityHandler + Send + Drop,
-    M: Fn() -> A,
->(rt: &R, types: &str, calls: &C, listen: L, make: M) -> ExitCode
-where
-    R::File: Send,
-    R::Dir: Send,
-    L: Drop,
-    M: Drop,
-    requires listens { L.IsAlwaysCallable listen }
-    requires makes { M.IsAlwaysCallable make }
-    ensures { exit_status result ≤ 3 }
-{
-    let make_silent = move || -> WithoutHeartbeat<A>
-        requires { M.IsAlwaysCallable make }
-    { WithoutHeartbeat { handler: make() } };
-    run_with_heartbeats::<W, R, C, L, WithoutHeartbeat<A>, _>(rt, types, calls, listen, make_silent)
 }

@@ -1,5 +1,6 @@
 //! The connection of a live source to its server.
 
+use crate::notes::SourceNote;
 use serde_json::Value;
 use std::alloc::Global;
 use wh_events::{GhostList, Text};
@@ -7,11 +8,11 @@ use wh_messages::QueryPoll;
 use wh_rpc::{CallFault, CallResult};
 use wh_tasks::{ActivityCell, ActivityInfo};
 
-/// The connection of a live source: it makes calls to the server and reports. Many workers share
-/// it. Its calls wait for the server.
+/// The connection of a live source: it makes calls to the server, reports, and hears of what is
+/// counted. Many workers share it. Its calls wait for the server.
 ///
-/// An implementation says what results its server may return for a request, and why there may be
-/// none; with a bridge in between it can say nothing.
+/// An implementation says what results its server may return for a request, why there may be none,
+/// and what its clock shows; with a bridge in between it can say nothing.
 pub trait Connection {
     ghost use Rattle.std.specs.Prelude.{◌≡◌, ◌++◌, ◌∷◌, [], ℕ, List, IfOk, true};
     ghost use Rattle.serde_json.specs.Data.{Data};
@@ -26,6 +27,9 @@ pub trait Connection {
     /// Why a request may get no result, by its method and its parameters: with which code and
     /// message it may be refused, and with which fault it may get no response.
     ghost fails: { List ℕ → Data → NoResult → Type 0 };
+
+    /// Which times its clock may show, in microseconds.
+    ghost shows: { ℕ → Type 0 };
 
     /// Returns the allocator that calls use.
     fn allocator(&self) -> Global;
@@ -57,6 +61,15 @@ pub trait Connection {
 
     /// Writes a line about a task, with the time.
     fn log(&self, what: &str);
+
+    /// Returns the time in microseconds of a clock that does not go back, 0 if there is none.
+    fn microseconds(&self) -> u64
+        ensures { shows result };
+
+    /// Notes a poll or an answer, for who counts those, and appends it to the list of what was
+    /// noted.
+    fn note(&self, note: SourceNote, notes: &mut GhostList<SourceNote>)
+        ensures { notes.new.items ≡ notes.old.items ++ note ∷ [] };
 
     /// Notes in a worker's cell that the activity task of the token now runs, and its info.
     fn begin_activity(&self, cell: &ActivityCell, token: &Text, info: ActivityInfo);

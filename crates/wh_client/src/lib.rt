@@ -2,16 +2,19 @@
 //! what their results mean.
 #![tactic(auto)]
 
+mod answers;
 mod asking;
 mod client;
 mod codes;
 mod connection;
 mod heartbeats;
 pub mod laws;
+mod notes;
 mod options;
 mod pages;
 mod requests;
 
+pub use answers::{AnswerKind, SentAnswer};
 pub use asking::AskFault;
 pub use client::{Client, read_history};
 pub use codes::{
@@ -19,5 +22,6 @@ pub use codes::{
 };
 pub use connection::Connection;
 pub use heartbeats::record_heartbeat;
+pub use notes::{PollOutcome, SourceNote};
 pub use options::{LiveOptions, TaskQueueKind};
 pub use requests::Request;

@@ -1,6 +1,6 @@
 -- The reasons of refusals follow from one another.
 use Rattle.std.proofs.Common.{◌≡◌, ◌⊎◌, List, [], inl, inr, subst, true, Option, Some, None, Result, Ok, Err, refl}
-use Rattle.std.specs.Prelude.{IfOk, codes, option_map}
+use Rattle.std.specs.Prelude.{IfOk, option_map}
 use Rattle.clap.specs.Words.{App, HasKind, IsAmong, Row, Text, fault_of, is_simple_and_free}
 use Rattle.clap.proofs.OnLiterals.{clap_on_literals}
 use Rattle.clap.specs.declared.error.Error.{Error}

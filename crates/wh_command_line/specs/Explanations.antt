@@ -7,8 +7,8 @@ use Rattle.wh_command_line.specs.declared.command_line.Plan.{Plan}
 use Rattle.wh_command_line.specs.declared.command_line.Plan.TheVariants.{Explain, View, Page}
 use Rattle.wh_command_line.specs.declared.explain.Choice.{Choice}
 use Rattle.wh_command_line.specs.declared.explain.Choice.TheVariants.{Nothing, Tasks, Twice}
-use Rattle.wh_view_report.specs.declared.text.Selection.{Selection}
-use Rattle.wh_view_report.specs.declared.text.Selection.TheVariants.{All, Last, Around}
+use Rattle.wh_console.specs.declared.selection.Selection.{Selection}
+use Rattle.wh_console.specs.declared.selection.Selection.TheVariants.{All, Last, Around}
 
 -- which tasks the flag for all tasks, the number of an event and a number of last tasks select; only one may be given
 abbrev pub selected : (all : Bool) (around last : Option ℕ) → Choice

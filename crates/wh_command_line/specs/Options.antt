@@ -1,8 +1,8 @@
--- The options of `serve` and `work`, with their limits.
-use Rattle.std.specs.Prelude.{◌≡◌, ◌≢◌, ◌⊎◌, ℕ, ◌+◌, ◌≤◌, ◌<◌, List, [], ◌∷◌, codes, true, Option, Some, IfSome}
+-- Arguments that several subcommands take, and the options of `serve` and `work`, with their limits.
+use Rattle.std.specs.Prelude.{◌≢◌, ◌⊎◌, ℕ, ◌+◌, ◌≤◌, ◌<◌, List, [], ◌∷◌, codes, true, Option, Some, IfSome}
 use Rattle.clap.specs.Words.{App, Row, Rule, Text, new_rule, with_rule}
-use Rattle.clap.specs.declared.builder.ArgAction.TheVariants.{Set, SetTrue}
-use Rattle.wh_host.specs.declared.config.Config.{Config}
+use Rattle.clap.specs.declared.builder.ArgAction.TheVariants.{Append, Set, SetTrue}
+use Rattle.wh_slots.specs.declared.sizes.Config.{Config}
 use Rattle.wh_command_line.specs.Sizes.{AreWithinLimits, GivesNumbers, config_of}
 use Rattle.wh_command_line.specs.declared.serve_options.ServeOptions.{ServeOptions}
 use Rattle.wh_command_line.specs.declared.command_line.Plan.{Plan}
@@ -32,6 +32,18 @@ option_or name otherwise = with_default otherwise (option name)
 -- the flag with a name
 abbrev pub flag : Text → Rule
 flag name = record (new_rule name) { long = Some name; action = Some SetTrue }
+
+-- the argument that names one or more paths
+abbrev pub paths : Rule
+paths = with_value_name (record (new_rule (codes "DIR")) { required = true; action = Some Append })
+
+-- the flag with which it is a failure if there is no history
+abbrev pub require_files : Rule
+require_files = flag (codes "require-files")
+
+-- the flag with which progress is reported also if the standard error is no terminal
+abbrev pub progress : Rule
+progress = flag (codes "progress")
 
 -- a subcommand with the options added for the size of a host
 abbrev pub with_sizes : App → App
@@ -98,6 +110,6 @@ HasSlots options = (options.workers ≤ options.slots) × (options.activity_work
 
 -- the numbers of a plan are within their limits, with at least as many slots as workers
 abbrev pub IsWithinLimits : Plan → Type 0
-IsWithinLimits (Serve dir options require_files progress) = options.workers ≤ options.slots
+IsWithinLimits (Serve dir options _ _) = options.workers ≤ options.slots
 IsWithinLimits (Work options) = IsWithinWorkLimits options × HasSlots options
 IsWithinLimits _ = Unit {0}

@@ -1,8 +1,8 @@
 -- The size of a host for which numbers ask.
 use Rattle.std.specs.Prelude.{◌≡◌, ℕ, List, codes, Some}
 use Rattle.clap.specs.Words.{Row}
-use Rattle.wh_host.specs.Machine.{IsConfig}
-use Rattle.wh_host.specs.declared.config.Config.{Config}
+use Rattle.wh_slots.specs.Sizes.{IsConfig}
+use Rattle.wh_slots.specs.declared.sizes.Config.{Config}
 use Rattle.wh_command_line.specs.Given.{GivesWithin, value_named}
 
 -- the size of a host for which the numbers ask

@@ -6,9 +6,9 @@ ghost use Rattle.clap.specs.Words.{App, Rule, app_of, new_app, found_of, rows_of
 ghost use Rattle.clap.specs.Words.{first_of, with_rule, with_subcommand};
 ghost use Rattle.clap.specs.declared.builder.Command.TheViews.{out-Command as fields_of};
 ghost use Rattle.wh_command_line.specs.Given.{GivesFlag, GivesFormat, GivesPaths, GivesText, LacksText};
-ghost use Rattle.wh_command_line.specs.Lines.{program, replay, serve, needed, folder, paths};
+ghost use Rattle.wh_command_line.specs.Lines.{program, serve, needed, file, folder};
 ghost use Rattle.wh_command_line.specs.Lines.{StandsFor, with_version};
-ghost use Rattle.wh_command_line.specs.Options.{as_needed, flag, option, option_or, with_default};
+ghost use Rattle.wh_command_line.specs.Options.{as_needed, flag, option, option_or, paths, with_default};
 ghost use Rattle.wh_command_line.specs.Options.{with_sizes, with_value_name};
 ghost use Rattle.wh_command_line.specs.Options.{GivesFewSlots, IsWithinLimits, IsWithinWorkLimits};
 ghost use Rattle.wh_command_line.specs.Options.{LacksSlots};
@@ -21,19 +21,18 @@ ghost use Rattle.wh_command_line.specs.Work.{GivesFewWorkSlots, LacksWork};
 use crate::explain::{explain, explanation_given};
 use crate::options::{CACHE, CACHE_EVENTS, Helps, NumberOption, SLOTS, WORKERS};
 use crate::query::{query, query_given};
-use crate::replay_options::ReplayOptions;
+use crate::replay::{options_given, replay};
 use crate::serve_options::ServeOptions;
 use crate::tables::{check, check_given, trial, trial_given};
 use crate::work::{WorkOptions, work};
 use clap::error::ErrorKind;
 use clap::{Arg, ArgAction, ArgMatches, Command, Error};
 use std::alloc::{AllocError, Global};
-use wh_console::Format;
+use wh_console::{Format, ReplayOptions, Selection};
 use wh_events::Text;
-use wh_view_report::Selection;
 
 /// What `--version` prints after the program's name.
-const VERSION: &str = "0.1.0";
+const VERSION: &str = "0.2.0";
 
 /// What the command line asks the program to do.
 #[derive(Debug, Drop)]
@@ -293,6 +292,22 @@ pub(crate) fn subcommand<'a>(alloc: Global, name: &'a str, about: &'a str) -> Co
     Command::new(alloc, name).about(about)
 }
 
+/// The help of the argument that names the file of a history.
+pub(crate) const HISTORY: &str = "The history file that is read, or - for the standard input";
+
+/// Returns a subcommand with its help and a required file, whose help is the last one.
+pub(crate) fn file_subcommand<'a>(
+    alloc: Global,
+    name: &'a str,
+    about: &'a str,
+    help: &'a str,
+) -> Result<Command<'a>, AllocError>
+    ensures { IfOk result (StandsFor (with_rule (new_app name.entry.now) file)) }
+{
+    let file = needed_argument(alloc, "FILE", help);
+    with_argument(Ok(subcommand(alloc, name, about)), file)
+}
+
 /// Adds an argument to a subcommand. An error of either is returned.
 pub(crate) fn with_argument<'a>(
     command: Result<Command<'a>, AllocError>,
@@ -318,7 +333,7 @@ pub(crate) fn with_number<'a>(
 }
 
 /// Returns the flag with which it is a failure if there is no history.
-fn require_files_argument<'a>(alloc: Global) -> Arg<'a>
+pub(crate) fn require_files_argument<'a>(alloc: Global) -> Arg<'a>
     ensures rule { rule_of result ≡ flag (codes "require-files") }
     ensures local { result.global ≡ false }
 {
@@ -326,7 +341,7 @@ fn require_files_argument<'a>(alloc: Global) -> Arg<'a>
 }
 
 /// Returns the flag with which progress is reported also if the standard error is no terminal.
-fn progress_argument<'a>(alloc: Global) -> Arg<'a>
+pub(crate) fn progress_argument<'a>(alloc: Global) -> Arg<'a>
     ensures rule { rule_of result ≡ flag (codes "progress") }
     ensures local { result.global ≡ false }
 {
@@ -335,33 +350,6 @@ fn progress_argument<'a>(alloc: Global) -> Arg<'a>
         "progress",
         "Prints on the standard error how many files are done, also where that is no terminal",
     )
-}
-
-/// Returns the subcommand `replay`.
-fn replay<'a>(alloc: Global) -> Result<Command<'a>, AllocError>
-    ensures { IfOk result (StandsFor replay) }
-{
-    let command = subcommand(
-        alloc,
-        "replay",
-        "Replays each history of folders and files, and prints a line for each",
-    );
-    let paths = paths_argument(
-        alloc,
-        "A folder whose .json files are read, a file, or - for the standard input",
-        "PATH",
-    );
-    let command = with_argument(Ok(command), paths);
-    let json = flag_argument(alloc, "json", "Prints the report as JSON");
-    let command = with_argument(command, json);
-    let command = with_argument(command, require_files_argument(alloc));
-    let strict_values = flag_argument(
-        alloc,
-        "strict-values",
-        "Warns of inputs, results and durations that differ",
-    );
-    let command = with_argument(command, strict_values);
-    with_argument(command, progress_argument(alloc))
 }
 
 /// Adds to a subcommand the options for the size of a host. An error of the subcommand is returned.
@@ -573,7 +561,7 @@ fn replay_given(alloc: Global, given: &ArgMatches<'_>) -> Result<Plan, Refusal>
     Ok(Plan::Replay {
         dir,
         more,
-        options: ReplayOptions::from_matches(given),
+        options: options_given(given),
     })
 }
 

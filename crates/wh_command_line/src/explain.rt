@@ -9,15 +9,14 @@ ghost use Rattle.wh_command_line.specs.Options.{IsWithinLimits, option};
 ghost use Rattle.wh_command_line.specs.Refusals.{IfBad};
 
 use crate::command_line::{
-    Plan, Refusal, bad_line, flag_argument, flag_given, format_given, needed_argument,
-    option_argument, subcommand, text_given, with_argument,
+    HISTORY, Plan, Refusal, bad_line, file_subcommand, flag_argument, flag_given, format_given,
+    option_argument, text_given, with_argument,
 };
 use crate::options::NumberOption;
 use clap::{Arg, ArgMatches, Command};
 use std::alloc::{AllocError, Global};
-use wh_console::Format;
+use wh_console::{Format, Selection};
 use wh_events::{EventNo, Text};
-use wh_view_report::Selection;
 
 /// The event whose task is shown.
 const AROUND: NumberOption = NumberOption {
@@ -69,17 +68,12 @@ fn with_selections<'a>(
 pub(crate) fn explain<'a>(alloc: Global) -> Result<Command<'a>, AllocError>
     ensures { IfOk result (StandsFor explain) }
 {
-    let command = subcommand(
+    let command = file_subcommand(
         alloc,
         "explain",
         "Replays a history, and prints what the workflow was told and gave, task by task",
+        HISTORY,
     );
-    let file = needed_argument(
-        alloc,
-        "FILE",
-        "The history file that is read, or - for the standard input",
-    );
-    let command = with_argument(Ok(command), file);
     let json = flag_argument(alloc, "json", "Prints the explanation as JSON");
     let command = with_argument(command, json);
     let recorded = flag_argument(

@@ -10,9 +10,7 @@ use crate::command_line::{Refusal, bad_line};
 use crate::work::WorkHelps;
 use clap::ArgMatches;
 use std::alloc::{AllocError, Global};
-use wh_cache::{MOST_CACHED_EVENTS, MOST_RUNS};
-use wh_host::MOST_SEATS;
-use wh_slots::MOST_SLOTS;
+use wh_slots::{MOST_CACHED_EVENTS, MOST_RUNS, MOST_SEATS, MOST_SLOTS};
 
 /// An option that takes a number.
 pub(crate) struct NumberOption {

@@ -8,8 +8,8 @@ ghost use Rattle.wh_command_line.specs.Queries.{GivesInput, GivesQuery, LacksQue
 ghost use Rattle.wh_command_line.specs.Refusals.{IfBad};
 
 use crate::command_line::{
-    Plan, Refusal, flag_argument, format_given, needed_argument, subcommand, text_copies,
-    text_given, with_argument,
+    HISTORY, Plan, Refusal, file_subcommand, flag_argument, format_given, needed_argument,
+    text_copies, text_given, with_argument,
 };
 use clap::{Arg, ArgAction, ArgMatches, Command};
 use std::alloc::{AllocError, Global};
@@ -29,17 +29,12 @@ fn input_argument<'a>(alloc: Global) -> Arg<'a>
 pub(crate) fn query<'a>(alloc: Global) -> Result<Command<'a>, AllocError>
     ensures { IfOk result (StandsFor query) }
 {
-    let command = subcommand(
+    let command = file_subcommand(
         alloc,
         "query",
         "Replays a history, and prints what the workflow answers to a query after its last task",
+        HISTORY,
     );
-    let file = needed_argument(
-        alloc,
-        "FILE",
-        "The history file that is read, or - for the standard input",
-    );
-    let command = with_argument(Ok(command), file);
     let query_type = needed_argument(alloc, "TYPE", "The query type");
     let command = with_argument(command, query_type);
     let command = with_argument(command, input_argument(alloc));

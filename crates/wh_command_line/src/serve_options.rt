@@ -2,7 +2,7 @@
 
 ghost use Rattle.std.specs.Prelude.{◌≡◌, ◌≢◌, Err, IfOk, IfErr};
 ghost use Rattle.clap.specs.Words.{found_of, rows_of};
-ghost use Rattle.wh_host.specs.Machine.{IsConfig};
+ghost use Rattle.wh_slots.specs.Sizes.{IsConfig};
 ghost use Rattle.wh_command_line.specs.Refusals.{IfBad};
 ghost use Rattle.wh_command_line.specs.Sizes.{AreWithinLimits, GivesAllWithin, GivesNumbers, config_of};
 
@@ -10,7 +10,7 @@ use crate::command_line::Refusal;
 use crate::options::{CACHE, CACHE_EVENTS, SLOTS, WORKERS};
 use clap::ArgMatches;
 use std::alloc::Global;
-use wh_host::Config;
+use wh_slots::Config;
 
 /// The options of `serve`, each within its limits.
 #[derive(Clone, Copy, Debug)]

@@ -9,7 +9,7 @@ ghost use Rattle.wh_command_line.specs.Tables.{GivesCheck, GivesTrial, LacksChec
 ghost use Rattle.wh_command_line.specs.Given.{LacksText};
 
 use crate::command_line::{
-    Plan, Refusal, bad_line, flag_argument, flag_given, format_given, needed_argument,
+    Plan, Refusal, bad_line, file_subcommand, flag_argument, flag_given, format_given,
     paths_argument, paths_given, subcommand, text_given, text_if_given, with_argument,
 };
 use clap::{Arg, ArgAction, ArgMatches, Command};
@@ -48,13 +48,12 @@ fn scenario_argument<'a>(alloc: Global) -> Arg<'a>
 pub(crate) fn trial<'a>(alloc: Global) -> Result<Command<'a>, AllocError>
     ensures { IfOk result (StandsFor trial) }
 {
-    let command = subcommand(
+    let command = file_subcommand(
         alloc,
         "try",
         "Gives a workflow that is a table in a file the jobs of a scenario, and prints its commands",
+        "A table (JSON)",
     );
-    let file = needed_argument(alloc, "FILE", "A table (JSON)");
-    let command = with_argument(Ok(command), file);
     with_argument(command, scenario_argument(alloc))
 }
 

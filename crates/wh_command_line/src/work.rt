@@ -3,7 +3,7 @@
 ghost use Rattle.std.specs.Prelude.{◌≡◌, ◌≢◌, ◌↔◌, ◌≤◌, ◌+◌, [], IsTrue, false, Some, Err, IfOk, IfErr, codes};
 ghost use Rattle.clap.specs.Words.{App, app_of, found_of, new_app, rows_of};
 ghost use Rattle.clap.specs.declared.builder.Command.TheViews.{out-Command as fields_of};
-ghost use Rattle.wh_host.specs.Machine.{IsConfig};
+ghost use Rattle.wh_slots.specs.Sizes.{IsConfig};
 ghost use Rattle.wh_command_line.specs.Given.{GivesText, LacksName, value_named};
 ghost use Rattle.wh_command_line.specs.Lines.{StandsFor, work};
 ghost use Rattle.wh_command_line.specs.Refusals.{IfBad};
@@ -23,7 +23,7 @@ use clap::{ArgMatches, Command};
 use std::alloc::{AllocError, Global};
 use wh_console::Format;
 use wh_events::Text;
-use wh_host::{Config, MOST_SEATS};
+use wh_slots::{Config, MOST_SEATS};
 
 /// The exit statuses, as the help of `work` lists them.
 const STATUSES: &str = "\

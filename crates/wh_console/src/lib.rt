@@ -8,6 +8,8 @@ mod error_printer;
 mod files;
 mod format;
 mod outlet;
+mod replay_options;
+mod selection;
 
 pub use console::{Console, Message};
 pub use error_printer::ErrorPrinter;
@@ -17,3 +19,5 @@ pub use files::{
 };
 pub use format::Format;
 pub use outlet::Outlet;
+pub use replay_options::{NO_OPTIONS, ReplayOptions};
+pub use selection::Selection;

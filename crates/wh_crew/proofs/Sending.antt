@@ -25,7 +25,7 @@ use Rattle.wh_events.proofs.key.RunKey.TheSendSync as runKey
 use Rattle.wh_events.proofs.lists.Text.TheSendSync as text
 use Rattle.wh_events.proofs.ghost_list.GhostList.TheSendSync as ghostList
 use Rattle.wh_tasks.proofs.cell.ActivityCell.TheSendSync as activityCell
-use Rattle.wh_live.proofs.journals.Journal.TheSendSync as journal
+use Rattle.wh_notes.proofs.journals.Journal.TheSendSync as journal
 use Rattle.wh_host.below.wh_slots.proofs.TaskName.TheSendSync as taskName
 use Rattle.wh_live.specs.contracts.live_source.LiveSource.{the_row}
 use Rattle.wh_crew.specs.contracts.bridge_connection.BridgeConnection as BridgeConnection
@@ -55,8 +55,9 @@ Value-send = as_row_send Value.the_field (value.send-Value (search sendable) num
 members_send : IsSend (as_row (map_field Value.the_row))
 members_send = map_send Value.the_row Value-send
 
-pub connection_sync : (ℓ : NamedLft) (R C : RattleType) → IsSync R → IsSync C → IsSync (BridgeConnection.the_row ℓ R C)
-connection_sync ℓ R C shared called =
+pub connection_sync : (ℓ : NamedLft) (R C N : RattleType) → IsSync R → IsSync C → IsSync N
+    → IsSync (BridgeConnection.the_row ℓ R C N)
+connection_sync ℓ R C N shared called observed =
     search (maps.crosses, heap.crosses, value.crosses, sendable) depth 60 fits 20000
 
 pub source_send : (ℓ : NamedLft) (L Q : RattleType) (bridge : _) (handler : _)

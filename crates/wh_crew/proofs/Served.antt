@@ -1,16 +1,17 @@
 -- What becomes of the sources of a host.
-use Rattle.std.proofs.Common.{◌≡◌, ◌∙◌, ◌≤◌, ◌+◌, ◌∷◌, [], List, ℕ, length, map, ap, refl, sym, subst, arith, is_some, vec_len}
+use Rattle.std.proofs.Common.{◌≡◌, ◌∙◌, ◌≤◌, ◌+◌, ◌∷◌, ◌++◌, [], List, ℕ, length, map, ap, refl, sym, subst, arith, is_some, vec_len}
 use Rattle.std.specs.Prelude.{sum_by}
-use Rattle.std.specs.List.{AllZip}
+use Rattle.std.specs.List.{AllZip, flat_map}
 use Rattle.std.proofs.lemmas.List.{append-nil}
 use Rattle.std.proofs.lemmas.List.Sums.{sum_by-cons}
 use Rattle.wh_client.specs.declared.options.TaskQueueKind.{TaskQueueKind}
 use Rattle.wh_client.specs.declared.options.LiveOptions.{LiveOptions}
-use Rattle.wh_host.specs.declared.config.Config.{Config}
+use Rattle.wh_slots.specs.declared.sizes.Config.{Config}
 use Rattle.wh_ledger.specs.Shares.{no_shares}
 use Rattle.wh_ledger.specs.declared.Shares.{Shares}
 use Rattle.wh_live.specs.Deliveries.{ComesFrom, LiveView, fresh}
 use Rattle.wh_commands.specs.declared.names.WorkerNames.{WorkerNames}
+use Rattle.wh_notes.specs.Notes.{counts_of}
 use Rattle.wh_poll.specs.Ends.{IsEndOf}
 use Rattle.wh_poll.specs.Turns.{Hears}
 use Rattle.wh_poll.specs.declared.setup.WorkerEnd.{WorkerEnd}
@@ -75,8 +76,13 @@ served program may hears config options workers crew end many has =
       from = subst (λ first. AllZip (λ first later. ComesFrom later first) first (map (λ e. e.source) left)) begun came;
       answers = omega (arith, most, none, taken);
       tally = has.tally ∙ ap tallies_of (maps left);
+      counts = has.counts ∙ ap counts_of (flats left);
     }
   where
     maps : {A O : Type 0} (ends : List (WorkerEnd LiveView A O)) → map (λ e. e.source.tally) ends ≡ map (λ s. s.tally) (map (λ e. e.source) ends)
     maps [] = refl
     maps (e ∷ ends) = ap (λ rest. e.source.tally ∷ rest) (maps ends)
+
+    flats : {A O : Type 0} (ends : List (WorkerEnd LiveView A O)) → flat_map (λ e. e.source.notes) ends ≡ flat_map (λ s. s.notes) (map (λ e. e.source) ends)
+    flats [] = refl
+    flats (e ∷ ends) = ap (λ rest. e.source.notes ++ rest) (flats ends)

@@ -1,11 +1,12 @@
 //! A connection over the calls of a bridge.
 
+use crate::source_observer::SourceObserver;
 use serde_json::Value;
 use std::alloc::Global;
 use std::sync::Wait;
 use std::thread;
 use std::time::{Clock, Duration};
-use wh_client::Connection;
+use wh_client::{Connection, SourceNote};
 use wh_events::{GhostList, Text};
 use wh_live_queries::QueryQueue;
 use wh_messages::QueryPoll;
@@ -13,12 +14,13 @@ use wh_rpc::{CallFault, CallResult, Caller};
 use wh_tasks::{ActivityCell, ActivityInfo};
 use wh_tester::Shown;
 
-/// A connection over the calls of a bridge, which reports and logs on standard error. It holds the
-/// runtime handle, since a poll is not passed one.
+/// A connection over the calls of a bridge, which reports and logs on standard error, and tells an
+/// observer what is counted. It holds the runtime handle, since a poll is not passed one.
 #[derive(Drop)]
-pub(crate) struct BridgeConnection<'a, R, C> {
+pub(crate) struct BridgeConnection<'a, R, C, N> {
     pub(crate) rt: &'a R,
     pub(crate) calls: &'a C,
+    pub(crate) observer: &'a N,
     /// The program's name, which begins each report.
     pub(crate) name: &'a str,
     /// The queue to which queries are passed.
@@ -33,10 +35,21 @@ fn seconds<R: Clock>(rt: &R) -> u64 {
     }
 }
 
-impl<R: Wait + Clock + Eprint, C: Caller> Connection for BridgeConnection<'_, R, C> {
+/// Returns the time in whole microseconds of a clock that does not go back, 0 if there is no clock.
+fn microseconds<R: Clock>(rt: &R) -> u64 {
+    match rt.monotonic() {
+        Ok(time) => u64::try_from(time.as_micros()).unwrap_or(u64::MAX),
+        Err(_) => 0,
+    }
+}
+
+impl<R: Wait + Clock + Eprint, C: Caller, N: SourceObserver> Connection
+    for BridgeConnection<'_, R, C, N> {
     ghost gives = { λ method params value. Unit {0} };
 
     ghost fails = { λ method params why. Unit {0} };
+
+    ghost shows = { λ time. Unit {0} };
 
     fn allocator(&self) -> Global {
         self.calls.allocator()
@@ -66,6 +79,15 @@ impl<R: Wait + Clock + Eprint, C: Caller> Connection for BridgeConnection<'_, R,
     fn log(&self, what: &str) {
         let seconds = seconds(self.rt);
         let _ = eprintln!(self.rt; "{seconds} {what}");
+    }
+
+    fn microseconds(&self) -> u64 {
+        microseconds(self.rt)
+    }
+
+    fn note(&self, note: SourceNote, notes: &mut GhostList<SourceNote>) {
+        self.observer.note(note);
+        *notes = notes.with(&note);
     }
 
     fn begin_activity(&self, cell: &ActivityCell, token: &Text, info: ActivityInfo) {

@@ -3,12 +3,14 @@
 ghost use Rattle.std.specs.Prelude.{◌≡◌, ◌≤◌, ◌<◌, true, IfOk, Some, is_some, length, map, nat_lt, replicate, vec_len};
 ghost use Rattle.wh_crew.specs.Counts.{tallies_of};
 ghost use Rattle.wh_crew.specs.Crews.{normal_workers, role_at, sources_of};
+ghost use Rattle.wh_notes.specs.Notes.{all_counts};
 
 use std::alloc::Global;
 use std::sync::Arc;
 use wh_client::{Connection, LiveOptions, TaskQueueKind};
 use wh_events::OutOfMemory;
-use wh_live::{LiveSource, QueryHandler, Tally};
+use wh_live::{LiveSource, QueryHandler};
+use wh_notes::{SourceCounts, Tally};
 use wh_poll::{WorkerEnd, WorkerSetup};
 use wh_tasks::ActivityCell;
 
@@ -86,7 +88,7 @@ pub(crate) fn setups_of<'a, L: Connection, Q: QueryHandler, A: Drop, O: Drop>(
     Ok(setups)
 }
 
-/// Returns what all sources have counted together.
+/// Returns how often all sources have failed together.
 pub(crate) fn total_tally<L: Connection, Q: QueryHandler, A, O>(
     left: &[WorkerEnd<LiveSource<'_, L, Q>, A, O>],
 ) -> Tally
@@ -95,6 +97,19 @@ pub(crate) fn total_tally<L: Connection, Q: QueryHandler, A, O>(
     let mut all = Tally::new();
     for worker in left {
         all.add(worker.source.tally());
+    }
+    all
+}
+
+/// Returns what all sources have done together.
+pub(crate) fn total_counts<L: Connection, Q: QueryHandler, A, O>(
+    left: &[WorkerEnd<LiveSource<'_, L, Q>, A, O>],
+) -> SourceCounts
+    ensures { result ≡ all_counts (λ worker. worker.source.notes) left.now }
+{
+    let mut all = SourceCounts::none();
+    for worker in left {
+        all.add(worker.source.counts());
     }
     all
 }

@@ -4,6 +4,7 @@ ghost use Rattle.std.specs.Prelude.{◌≡◌, IfOk};
 ghost use Rattle.wh_crew.specs.HeartbeatResponses.{Means, noted};
 
 use crate::bridge_connection::BridgeConnection;
+use crate::source_observer::NoSourceObserver;
 use crate::timer::milliseconds;
 use std::alloc::Global;
 use std::sync::{Arc, Wait};
@@ -108,6 +109,7 @@ impl<R: Wait + Clock + Eprint, C: Caller> LiveHeartbeat<'_, R, C> {
         let connection = BridgeConnection {
             rt: self.rt,
             calls: self.calls,
+            observer: &NoSourceObserver,
             name: "",
             queries: QueryQueue::new(self.calls.allocator()),
         };

@@ -2,7 +2,7 @@
 
 ghost use Rattle.std.specs.Prelude.{◌≡◌, ◌≤◌, ◌+◌, ◌↔◌, IfOk, Err, vec_len};
 ghost use denote.Param.Send.{IsSend};
-ghost use Rattle.wh_host.specs.Machine.{IsConfig};
+ghost use Rattle.wh_slots.specs.Sizes.{IsConfig};
 ghost use Rattle.wh_poll.specs.Ends.{IsHostEnd};
 
 use crate::timer::send_held;

@@ -7,8 +7,10 @@ mod heartbeats;
 mod hosting;
 pub mod laws;
 mod serving;
+mod source_observer;
 mod task_queries;
 mod timer;
 
 pub use heartbeats::LiveHeartbeat;
 pub use serving::{LiveEnd, read_input, serve_live};
+pub use source_observer::SourceObserver;

@@ -3,11 +3,12 @@
 ghost use Rattle.std.specs.Prelude.{◌≡◌, ◌+◌, ◌↔◌, Err, IfOk, vec_len};
 ghost use Rattle.wh_crew.specs.Serving.{HasServed};
 ghost use Rattle.wh_crew.specs.TaskQueries.{AnswersByReplay};
-ghost use Rattle.wh_host.specs.Machine.{IsConfig};
+ghost use Rattle.wh_slots.specs.Sizes.{IsConfig};
 
 use crate::bridge_connection::BridgeConnection;
-use crate::crews::{setups_of, total_tally};
+use crate::crews::{setups_of, total_counts, total_tally};
 use crate::hosting::run_host_answering;
+use crate::source_observer::SourceObserver;
 use crate::task_queries::ByClosure;
 use std::alloc::Global;
 use std::io::BufReader;
@@ -18,8 +19,9 @@ use wh_client::{Client, LiveOptions};
 use wh_commands::Members;
 use wh_events::Event;
 use wh_host::{Companion, Config, OpenFault, Totals};
-use wh_live::{LiveSource, QueryHandler, Tally};
+use wh_live::{LiveSource, QueryHandler};
 use wh_live_queries::{QueryQueue, results_beside};
+use wh_notes::{SourceCounts, Tally};
 use wh_poll::{ActivityHandler, Observer};
 use wh_rpc::{Caller, read_lines};
 use wh_tasks::ActivityCell;
@@ -31,8 +33,10 @@ use wh_workflow::Queryable;
 pub struct LiveEnd {
     /// What its workers counted.
     pub totals: Totals,
-    /// What their sources counted.
+    /// How often their sources failed.
     pub tally: Tally,
+    /// What their sources have done.
+    pub sources: SourceCounts,
 }
 
 /// Reads what the bridge writes, until it ends, and delivers each response to the call that waits
@@ -72,6 +76,7 @@ fn serve_with<
     O: Observer + Send + Drop,
     P: Companion + Sync,
     Q: QueryHandler + Sync,
+    N: SourceObserver + Sync,
 >(
     rt: &'x R,
     alloc: Global,
@@ -84,6 +89,7 @@ fn serve_with<
     cells: &'x [Arc<ActivityCell>],
     companion: Option<&P>,
     query_handler: &'x Q,
+    observer: &'x N,
 ) -> Result<LiveEnd, OpenFault>
     requires ready { Q.ready query_handler.now }
     requires answers { AnswersByReplay (Q.gives_results query_handler.now) W.program W.queries W.definitions }
@@ -98,6 +104,7 @@ fn serve_with<
     let connection = &BridgeConnection {
         rt,
         calls,
+        observer,
         name,
         queries: QueryQueue::new(alloc),
     };
@@ -114,11 +121,11 @@ fn serve_with<
     let end = run_host_answering::<
         W,
         R,
-        LiveSource<'_, BridgeConnection<R, C>, Q>,
+        LiveSource<'_, BridgeConnection<R, C, N>, Q>,
         A,
         O,
         P,
-        BridgeConnection<R, C>,
+        BridgeConnection<R, C, N>,
     >(
         rt,
         alloc,
@@ -133,6 +140,7 @@ fn serve_with<
     Ok(LiveEnd {
         totals: end.totals,
         tally: total_tally(end.workers.as_slice()),
+        sources: total_counts(end.workers.as_slice()),
     })
 }
 
@@ -157,8 +165,9 @@ fn serve_with<
 /// run's history: they take no slot, and change no count (Temporal documentation, "Queries"). Those
 /// that come with a task are answered with it, by replay of the run's events.
 ///
-/// The companion, if there is one, runs beside the workers in one more thread, as `run_host_beside`
-/// of `wh_poll` says. Faults are reported on standard error, after the program's name.
+/// The companion, if there is one, runs beside the workers in one more thread, as `run_beside` of
+/// `wh_poll` says. The observer hears of the polls of the workers, and of the answers that they
+/// sent. Faults are reported on standard error, after the program's name.
 ///
 /// `BadConfig` if a size is out of its range, or there are not as many seats as members of the
 /// crew; `OutOfMemory` if there was no memory. After an error the crew is dropped. (Temporal
@@ -171,6 +180,7 @@ pub fn serve_live<
     A: ActivityHandler + Send + Drop,
     O: Observer + Send + Drop,
     P: Companion + Sync,
+    N: SourceObserver + Sync,
 >(
     rt: &'x R,
     alloc: Global,
@@ -182,6 +192,7 @@ pub fn serve_live<
     crew: Vec<(A, O)>,
     cells: &'x [Arc<ActivityCell>],
     companion: Option<&P>,
+    observer: &'x N,
 ) -> Result<LiveEnd, OpenFault>
     ensures bad { (result ≡ Err OpenFault.BadConfig) ↔ (¬ (IsConfig config × (config.seats ≡ vec_len crew))) }
     ensures served { IfOk result (HasServed W.program A.may O.hears config options.now workers crew.items) }
@@ -193,7 +204,7 @@ pub fn serve_live<
             results_beside::<W>(alloc, events, queries)
         },
     };
-    serve_with::<W, R, C, A, O, P, _>(
+    serve_with::<W, R, C, A, O, P, _, N>(
         rt,
         alloc,
         name,
@@ -205,5 +216,6 @@ pub fn serve_live<
         cells,
         companion,
         &query_handler,
+        observer,
     )
 }

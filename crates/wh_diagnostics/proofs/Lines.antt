@@ -1,5 +1,5 @@
 -- What is written, one part after the other.
-use Rattle.std.proofs.Common.{◌≡◌, ℕ, List, [], None, Some, sym}
+use Rattle.std.proofs.Common.{ℕ, List, [], None, Some, sym}
 use Rattle.std.specs.Prelude.{Option}
 use Rattle.std.specs.Io.KnownBytes.{Appends}
 use Rattle.std.proofs.lemmas.List.{append-nil}

@@ -1,10 +1,9 @@
 -- What is printed.
-use Rattle.std.proofs.Common.{◌≡◌, ◌∙◌, ℕ, List, inl, inr, refl, sym, subst}
+use Rattle.std.proofs.Common.{◌≡◌, ◌∙◌, ℕ, List, refl, sym, subst}
 use Rattle.std.specs.Prelude.{Result, Ok, Err, IfErr, IfOk, OnOk}
 use Rattle.std.specs.Io.KnownBytes.{Keeps}
 use Rattle.wh_console.proofs.Printing.{printed_kept, quiet_twice}
 use Rattle.wh_console.specs.Consoles.{ConsoleView, IsQuiet, Printed}
-use Rattle.wh_diagnostics.specs.Failures.{IsWriteFailure}
 use Rattle.wh_diagnostics.specs.Printing.{HasPrinted, IsRefused, unflushed}
 use Rattle.wh_diagnostics.specs.declared.failures.Failure.{Failure}
 use Rattle.wh_diagnostics.specs.declared.failures.Failure.TheVariants.{Output}
@@ -54,14 +53,3 @@ fault_flushed old first new faults.OutOfMemory (Err failure) quiet same more kep
   quiet = quiet_twice old first new quiet more;
   unwritten = λ other. subst (λ o. Keeps o new.output) (same refl) kept;
 }
-
--- why nothing is written
-pub fault_why : (fault : CommandFault) (result : Result ℕ Failure)
-    → IfErr result (λ failure. failure ≡ unflushed (Err fault)) → IfErr result IsWriteFailure
-fault_why fault (Ok status) failed = tt
-fault_why faults.Output (Err failure) failed = inl failed
-fault_why faults.OutOfMemory (Err failure) failed = inr failed
-
-pub output_why : (result : Result ℕ Failure) → IfErr result (λ failure. failure ≡ Output) → IfErr result IsWriteFailure
-output_why (Ok status) failed = tt
-output_why (Err failure) failed = inl failed

@@ -31,4 +31,4 @@ unread_unreported failures.BadInput why = why
 unread_unreported (failures.NotJson file detail) why = why
 unread_unreported (failures.NotViewed file fault) why = why
 unread_unreported (failures.NotText file) why = why
-unread_unreported (failures.BadPolicies file fault) why = why
+unread_unreported (failures.BadPolicies file reason) why = why

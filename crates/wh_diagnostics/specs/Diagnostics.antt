@@ -1,66 +1,20 @@
 -- What commands report on the standard error.
-use Rattle.std.specs.Prelude.{ℕ, List, [], ◌∷◌, ◌++◌, codes, Option, Some, None, String, string_bytes}
+use Rattle.std.specs.Prelude.{ℕ, List, ◌++◌, codes, Option, Some, None, String, string_bytes}
 use Rattle.std.specs.List.{flat_map}
 use Rattle.std.specs.declared.alloc.Global.{Global}
 use Rattle.wh_console.specs.Reasons.{reason_words}
 use Rattle.wh_console.specs.declared.files.Reason.{Reason}
 use Rattle.wh_json.specs.declared.fault.ReadFault.{ReadFault}
 use Rattle.wh_tester.specs.Report.{fault_text, shown}
-use Rattle.wh_explain.specs.declared.explanation.Pairing.{Pairing}
-use Rattle.wh_phrases.specs.Sides.{sides_text}
-use Rattle.wh_report.specs.declared.records.Record.{Record}
 use Rattle.wh_diagnostics.specs.declared.diagnostics.Diagnostic.{Diagnostic}
-use Rattle.wh_diagnostics.specs.declared.diagnostics.Diagnostic.TheVariants.{NoFiles, BadNames, BadJson, BadFiles, Queried, Failed}
+use Rattle.wh_diagnostics.specs.declared.diagnostics.Diagnostic.TheVariants.{NoFiles, BadNames, BadJson, Failed}
 use Rattle.wh_diagnostics.specs.declared.failures.Failure.{Failure}
 use Rattle.wh_diagnostics.specs.declared.failures.Failure.TheVariants.{BadLine, BadArguments, FewSlots, BadInput, Unreadable, NotJson, NotViewed, NotText, BadPolicies, Output, OutOfMemory}
-use Rattle.wh_diagnostics.specs.Policies.{bad_policies_line}
-use Rattle.wh_file_faults.specs.DetailTexts.{detail_text}
-use Rattle.wh_file_faults.specs.declared.detail.FaultDetail.{FaultDetail}
-use Rattle.wh_phrases.specs.Texts.{value_text}
-use Rattle.wh_phrases.specs.declared.comparing.OtherValue.{OtherValue}
+use Rattle.wh_file_faults.specs.DetailTexts.{detail_line}
 
 -- `<name>: <text>`, with the name by which the program was called
 abbrev pub named_line : (text name : List ℕ) → List ℕ
 named_line text name = shown name ++ (codes ": " ++ (text ++ codes "\n"))
-
--- `<name>: <file>: <the command sent and the event recorded>`
-abbrev pub difference_line : (file : List ℕ) → Pairing → (name : List ℕ) → List ℕ
-difference_line file pairing name =
-    shown name ++ (codes ": " ++ (shown file ++ (codes ": " ++ (sides_text pairing ++ codes "\n"))))
-
--- that line, if the two differ
-abbrev pub difference_lines : (file : List ℕ) → Option Pairing → (name : List ℕ) → List ℕ
-difference_lines file None name = []
-difference_lines file (Some pairing) name = difference_line file pairing name
-
--- `<name>: <file>: <the detail of its fault>`
-abbrev pub detail_line : (file : List ℕ) → FaultDetail → (name : List ℕ) → List ℕ
-detail_line file detail name =
-    shown name ++ (codes ": " ++ (shown file ++ (codes ": " ++ (detail_text detail ++ codes "\n"))))
-
--- that line, if there is a detail
-abbrev pub detail_lines : (file : List ℕ) → Option FaultDetail → (name : List ℕ) → List ℕ
-detail_lines file None name = []
-detail_lines file (Some detail) name = detail_line file detail name
-
--- `<name>: <file>: <a value that differs>`
-abbrev pub warning_line : (file : List ℕ) → OtherValue → (name : List ℕ) → List ℕ
-warning_line file value name =
-    shown name ++ (codes ": " ++ (shown file ++ (codes ": " ++ (value_text value ++ codes "\n"))))
-
--- a line for each value that differs
-abbrev pub warning_lines : (file : List ℕ) → List OtherValue → (name : List ℕ) → List ℕ
-warning_lines file values name = flat_map (λ value. warning_line file value name) values
-
--- the lines of a file: its difference, the detail of its fault, and its warnings
-abbrev pub record_lines : Record → List ℕ → List ℕ
-record_lines own name =
-    difference_lines own.line.name own.difference name
-    ++ (detail_lines own.line.name own.detail name ++ warning_lines own.line.name own.warnings name)
-
--- the lines of files, in their order
-abbrev pub records_lines : List Record → List ℕ → List ℕ
-records_lines records name = flat_map (λ own. record_lines own name) records
 
 -- `<name>: cannot read <path>: <reason>`
 abbrev pub path_line : (path why name : List ℕ) → List ℕ
@@ -95,6 +49,11 @@ unviewed_line file fault name =
 abbrev pub not_text_line : (file name : List ℕ) → List ℕ
 not_text_line file name = shown name ++ (codes ": " ++ (shown file ++ codes ": not UTF-8 text\n"))
 
+-- `<name>: <file>: <why it gives no policies>`
+abbrev pub bad_policies_line : (file why name : List ℕ) → List ℕ
+bad_policies_line file why name =
+    shown name ++ (codes ": " ++ (shown file ++ (codes ": " ++ (why ++ codes "\n"))))
+
 -- why there is no full report: the text on an invalid command line as it is, or a line under the program's name
 abbrev pub failed_text : Failure → List ℕ → List ℕ
 failed_text (BadLine text) name = text
@@ -105,7 +64,7 @@ failed_text (Unreadable dir entry reason) name = reason_line dir entry reason na
 failed_text (NotJson file detail) name = detail_line file detail name
 failed_text (NotViewed file fault) name = unviewed_line file fault name
 failed_text (NotText file) name = not_text_line file name
-failed_text (BadPolicies file fault) name = bad_policies_line file fault name
+failed_text (BadPolicies file why) name = bad_policies_line file why name
 failed_text Output name = named_line (codes "cannot write") name
 failed_text OutOfMemory name = named_line (codes "out of memory") name
 
@@ -114,6 +73,4 @@ abbrev pub diagnostic_text : Diagnostic → List ℕ → List ℕ
 diagnostic_text (NoFiles dir) name = named_line (codes "no .json file in " ++ dir) name
 diagnostic_text (BadNames dir names) name = bad_name_lines dir names.items name
 diagnostic_text (BadJson file detail) name = detail_line file detail name
-diagnostic_text (BadFiles records) name = records_lines records.items name
-diagnostic_text (Queried own) name = record_lines own name
 diagnostic_text (Failed failure) name = failed_text failure name

@@ -1,7 +1,6 @@
 pub mod Diagnostics
 pub mod Failures
 pub mod Files
-pub mod Policies
 pub mod Printing
 pub mod KnownTypes
 pub mod Listings

@@ -1,5 +1,5 @@
 -- What a command prints, and its status.
-use Rattle.std.specs.Prelude.{◌≡◌, ◌≢◌, ℕ, List, Bool, Result, Ok, Err, if◌then◌else◌}
+use Rattle.std.specs.Prelude.{◌≡◌, ◌≢◌, ℕ, List, Bool, Result, Err, if◌then◌else◌}
 use Rattle.std.specs.Io.KnownBytes.{Keeps}
 use Rattle.wh_console.specs.Consoles.{ConsoleView, IsQuiet, Printed}
 use Rattle.wh_diagnostics.specs.declared.failures.Failure.{Failure}

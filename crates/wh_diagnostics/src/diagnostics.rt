@@ -2,20 +2,15 @@
 
 ghost use Rattle.std.specs.Prelude.{◌≡◌, ◌++◌, OnOk, codes};
 ghost use Rattle.std.specs.Io.KnownBytes.{Appends};
-ghost use Rattle.wh_diagnostics.specs.Diagnostics.{bad_name_line, bad_name_lines, detail_line, detail_lines, diagnostic_text, difference_lines, entry_line, failed_text, named_line, not_text_line, path_line, reason_line, record_lines, records_lines, unviewed_line, warning_line, warning_lines};
-ghost use Rattle.wh_diagnostics.specs.Policies.{bad_policies_line};
+ghost use Rattle.wh_diagnostics.specs.Diagnostics.{bad_name_line, bad_name_lines, bad_policies_line, diagnostic_text, entry_line, failed_text, named_line, not_text_line, path_line, reason_line, unviewed_line};
 
 use crate::failures::Failure;
-use crate::policies::PolicyFaultText;
 use std::io;
 use std::io::Write;
 use wh_console::{Message, Reason};
 use wh_events::Text;
-use wh_file_faults::FaultDetail;
+use wh_file_faults::{FaultDetail, write_detail};
 use wh_json::ReadFault;
-use wh_phrases::{OtherValue, OtherValueText, SidesText};
-use wh_policies::PolicyFault;
-use wh_report::Record;
 use wh_tester::{FaultText, Shown};
 
 /// What a command may report on the standard error.
@@ -39,17 +34,6 @@ pub enum Diagnostic {
         file: Text,
         /// Where it stops being JSON.
         detail: FaultDetail,
-    },
-    /// What the report does not say of files: the command sent and the event recorded where they
-    /// differ, the details of their faults, and their warnings.
-    BadFiles {
-        /// The records of the files.
-        records: Vec<Record>,
-    },
-    /// The same for the file that was queried.
-    Queried {
-        /// The record of the file.
-        own: Record,
     },
     /// There is no full report.
     Failed {
@@ -83,99 +67,6 @@ fn write_no_files<E: Write>(dir: &str, name: &str, writer: &mut E) -> io::Result
     writeln!(writer, "{name}: no .json file in {dir}")
 }
 
-/// Writes the line of the detail of a file's fault. After an error part of it may have been written.
-pub fn write_detail<E: Write>(
-    file: &str,
-    detail: &FaultDetail,
-    name: &str,
-    writer: &mut E,
-) -> io::Result<()>
-    ensures written { OnOk result (Appends (E.contents writer.old) (E.contents writer.new)
-        (detail_line file.now detail.now name.now)) }
-{
-    let file = Shown(file);
-    let name = Shown(name);
-    writeln!(writer, "{name}: {file}: {detail}")
-}
-
-/// Writes the command sent and the event recorded where a file's replay differs, if it does.
-fn write_difference<E: Write>(own: &Record, name: &str, writer: &mut E) -> io::Result<()>
-    ensures { OnOk result (Appends (E.contents writer.old) (E.contents writer.new)
-        (difference_lines own.now.line.name own.now.difference name.now)) }
-{
-    let Some(pairing) = &own.difference else {
-        return Ok(());
-    };
-    let file = Shown(own.line.name.get());
-    let sides = SidesText(pairing);
-    let name = Shown(name);
-    writeln!(writer, "{name}: {file}: {sides}")
-}
-
-/// Writes the detail of a file's fault, if there is one.
-fn write_detail_of<E: Write>(own: &Record, name: &str, writer: &mut E) -> io::Result<()>
-    ensures { OnOk result (Appends (E.contents writer.old) (E.contents writer.new)
-        (detail_lines own.now.line.name own.now.detail name.now)) }
-{
-    match &own.detail {
-        Some(detail) => write_detail(own.line.name.get(), detail, name, writer),
-        None => Ok(()),
-    }
-}
-
-/// Writes a warning: a value of a file that differs from what is recorded.
-fn write_warning<E: Write>(
-    file: &str,
-    value: &OtherValue,
-    name: &str,
-    writer: &mut E,
-) -> io::Result<()>
-    ensures { OnOk result (Appends (E.contents writer.old) (E.contents writer.new)
-        (warning_line file.now value.now name.now)) }
-{
-    let file = Shown(file);
-    let value = OtherValueText(value);
-    let name = Shown(name);
-    writeln!(writer, "{name}: {file}: {value}")
-}
-
-/// Writes the warnings of a file, one line for each.
-fn write_warnings<E: Write>(
-    file: &str,
-    values: &[OtherValue],
-    name: &str,
-    writer: &mut E,
-) -> io::Result<()>
-    ensures { OnOk result (Appends (E.contents writer.old) (E.contents writer.new)
-        (warning_lines file.now values.now name.now)) }
-{
-    for value in values {
-        write_warning(file, value, name, writer)?;
-    }
-    Ok(())
-}
-
-/// Writes the lines of a file beside the report: its difference, the detail of its fault, and its
-/// warnings.
-fn write_record<E: Write>(own: &Record, name: &str, writer: &mut E) -> io::Result<()>
-    ensures { OnOk result (Appends (E.contents writer.old) (E.contents writer.new) (record_lines own.now name.now)) }
-{
-    write_difference(own, name, writer)?;
-    write_detail_of(own, name, writer)?;
-    write_warnings(own.line.name.get(), own.warnings.get(), name, writer)
-}
-
-/// Writes the lines of files beside the report, in their order.
-fn write_records<E: Write>(records: &[Record], name: &str, writer: &mut E) -> io::Result<()>
-    ensures { OnOk result (Appends (E.contents writer.old) (E.contents writer.new)
-        (records_lines records.now name.now)) }
-{
-    for own in records {
-        write_record(own, name, writer)?;
-    }
-    Ok(())
-}
-
 /// Writes that a file is not UTF-8 text.
 fn write_not_text<E: Write>(file: &str, name: &str, writer: &mut E) -> io::Result<()>
     ensures { OnOk result (Appends (E.contents writer.old) (E.contents writer.new) (not_text_line file.now name.now)) }
@@ -186,19 +77,13 @@ fn write_not_text<E: Write>(file: &str, name: &str, writer: &mut E) -> io::Resul
 }
 
 /// Writes why a policy file is refused.
-fn write_policies<E: Write>(
-    file: &str,
-    fault: &PolicyFault,
-    name: &str,
-    writer: &mut E,
-) -> io::Result<()>
+fn write_policies<E: Write>(file: &str, why: &str, name: &str, writer: &mut E) -> io::Result<()>
     ensures { OnOk result (Appends (E.contents writer.old) (E.contents writer.new)
-        (bad_policies_line file.now fault.now name.now)) }
+        (bad_policies_line file.now why.now name.now)) }
 {
     let file = Shown(file);
-    let fault = PolicyFaultText(fault);
     let name = Shown(name);
-    writeln!(writer, "{name}: {file}: {fault}")
+    writeln!(writer, "{name}: {file}: {why}")
 }
 
 /// Writes why a path can't be read.
@@ -305,7 +190,7 @@ fn write_failed<E: Write>(failure: &Failure, name: &str, writer: &mut E) -> io::
         Failure::NotJson { file, detail } => write_detail(file.get(), detail, name, writer),
         Failure::NotViewed { file, fault } => write_not_viewed(file.get(), fault, name, writer),
         Failure::NotText { file } => write_not_text(file.get(), name, writer),
-        Failure::BadPolicies { file, fault } => write_policies(file.get(), fault, name, writer),
+        Failure::BadPolicies { file, why } => write_policies(file.get(), why.get(), name, writer),
         Failure::Output => write_line("cannot write", name, writer),
         Failure::OutOfMemory => write_line("out of memory", name, writer),
     }
@@ -325,8 +210,6 @@ fn write_diagnostic<E: Write>(diagnostic: &Diagnostic, name: &str, writer: &mut 
             writer,
         ),
         Diagnostic::BadJson { file, detail } => write_detail(file.get(), detail, name, writer),
-        Diagnostic::BadFiles { records } => write_records(records.as_slice(), name, writer),
-        Diagnostic::Queried { own } => write_record(own, name, writer),
         Diagnostic::Failed { failure } => write_failed(failure, name, writer),
     }
 }

@@ -7,7 +7,6 @@ use wh_console::{FolderFault, InputFault, Reason};
 use wh_events::Text;
 use wh_file_faults::{CommandFault, FaultDetail};
 use wh_json::ReadFault;
-use wh_policies::PolicyFault;
 
 /// Why a command ends without a full report.
 #[derive(Drop)]
@@ -55,8 +54,8 @@ pub enum Failure {
     BadPolicies {
         /// The path of the file.
         file: Text,
-        /// The reason.
-        fault: PolicyFault,
+        /// The reason, in words.
+        why: Text,
     },
     /// The report can't be written.
     Output,

@@ -16,7 +16,6 @@ mod known_types;
 pub mod laws;
 mod line;
 mod listing;
-mod policies;
 mod printing;
 mod progress;
 mod progress_modes;
@@ -24,7 +23,7 @@ mod readings;
 
 pub use batches::{batch_size, reported_batches};
 pub use commands::lack;
-pub use diagnostics::{Diagnostic, write_detail, write_line};
+pub use diagnostics::{Diagnostic, write_line};
 pub use endings::{fail, fail_under, no_memory};
 pub use failures::{Failure, unreadable_path};
 pub use files::file_at;

@@ -3,6 +3,7 @@
 ghost use Rattle.std.specs.Prelude.{◌≡◌, Err, IfErr, IfOk, Ok, OnOk};
 ghost use Rattle.std.specs.Io.KnownBytes.{Keeps};
 ghost use Rattle.wh_console.specs.Consoles.{IsQuiet, Printed};
+ghost use Rattle.wh_diagnostics.specs.Failures.{IsWriteFailure};
 ghost use Rattle.wh_diagnostics.specs.Printing.{HasPrinted, status_with, unflushed};
 
 use crate::failures::Failure;
@@ -20,6 +21,7 @@ pub fn flush_answer<O: Write, E: Write>(
     ensures memory { answer ≡ Err CommandFault.OutOfMemory → result ≡ Err Failure.OutOfMemory }
     ensures output { answer ≡ Err CommandFault.Output → result ≡ Err Failure.Output }
     ensures failure { IfErr result (λ failure. failure ≡ unflushed answer) }
+    ensures why { IfErr result IsWriteFailure }
     ensures quiet { IsQuiet console.old console.new }
     ensures kept { Keeps console.old.output console.new.output }
 {

@@ -25,10 +25,10 @@ use Rattle.wh_replay.specs.Replays.{ReplayResult, begin_at, reached, close_task,
 use Rattle.wh_replay.specs.Tracking.{in_place}
 use Rattle.wh_replay.specs.Views.{context_after}
 use Rattle.wh_replay.proofs.Stepping.{IsNext, next_is, no_cut, task_at, walk_next}
-use Rattle.wh_explain.specs.declared.explanation.ExplainedTask.{ExplainedTask}
-use Rattle.wh_explain.specs.declared.explanation.RecordedEvent.{RecordedEvent}
-use Rattle.wh_explain.specs.declared.explanation.Pairing.{Pairing}
-use Rattle.wh_explain.specs.declared.explanation.Pairing.TheVariants.{Alike, Different}
+use Rattle.wh_explained_tasks.specs.declared.ExplainedTask.{ExplainedTask}
+use Rattle.wh_explained_tasks.specs.declared.RecordedEvent.{RecordedEvent}
+use Rattle.wh_explained_tasks.specs.declared.Pairing.{Pairing}
+use Rattle.wh_explained_tasks.specs.declared.Pairing.TheVariants.{Alike, Different}
 use Rattle.wh_explain.specs.Pairings.{pairings, recorded_event, differs, difference_from}
 use Rattle.wh_explain.specs.Explaining.{sent_ending, unless_refused, stops, IsTask, AreTasks, all, stopped, passed, AreTasksIf, AreTasksPlaced}
 use Rattle.wh_explain.specs.Laws.{EndAs, EndsAsReplay}

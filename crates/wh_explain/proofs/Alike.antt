@@ -6,7 +6,7 @@ use Rattle.wh_events.specs.Cuts.{is_commanded, commanded}
 use Rattle.wh_events.specs.declared.memory.OutOfMemory.{OutOfMemory}
 use Rattle.wh_workflow.specs.declared.command.Command.{Command}
 use Rattle.wh_workflow.specs.Names.{names}
-use Rattle.wh_explain.specs.declared.explanation.Pairing.{Pairing}
+use Rattle.wh_explained_tasks.specs.declared.Pairing.{Pairing}
 use Rattle.wh_explain.specs.Pairings.{pairing_of, pairings}
 
 first_left : {A : Type 0} (xs : List A) (i : ℕ) (x : A) → i < length xs → x ≡ get_or xs i x → drop i xs ≡ x ∷ drop (i + 1) xs

@@ -1,49 +1,63 @@
 -- How a task ends, and why no other follows.
-use Rattle.std.proofs.Common.{◌≡◌, ◌∙◌, ℕ, ◌≤◌, Bool, true, false, ◌||◌, cond, List, [], ◌∷◌, ◌++◌, length, Option, Some, None, is_some, option_map, Result, Ok, Err, refl, sym, ap, subst}
-use Rattle.std.specs.Prelude.{IfSome, option_to_list}
+use Rattle.std.proofs.Common.{◌≡◌, ◌∙◌, ℕ, ◌≤◌, Bool, true, false, ◌||◌, cond, List, [], ◌∷◌, ◌++◌, length, Option, Some, None, is_some, Result, Ok, Err, refl, sym, ap, subst}
+use Rattle.std.specs.Prelude.{IfOk, IfSome}
 use Rattle.std.specs.List.{list_any}
 use Rattle.wh_events.specs.declared.event.Event.{Event}
 use Rattle.wh_workflow.specs.declared.command.Command.{Command}
+use Rattle.wh_workflow.specs.declared.job.Job.{Job}
 use Rattle.wh_workflow.specs.declared.fault.Mismatch.{Mismatch}
 use Rattle.wh_workflow.specs.declared.fault.WorkflowFault.{WorkflowFault}
 use Rattle.wh_workflow.specs.Law.{Program, IsLawful}
 use Rattle.wh_workflow.specs.Names.{mismatch}
 use Rattle.wh_workflow.specs.Scripts.{ActivationContext, Settled, reduced}
 use Rattle.wh_workflow.specs.Activations.{Progress}
-use Rattle.wh_workflow.specs.ActivationScripts.{Step, fault_in, issued_in, ok_unless, settled_after, state_after}
+use Rattle.wh_workflow.specs.ActivationScripts.{Step, IsLongest, fault_in, issued_in, ok_unless, settled_after, state_after}
 use Rattle.wh_replay.specs.declared.fault.Fault.{Fault}
-use Rattle.wh_replay.specs.declared.fault.Fault.TheVariants.{Workflow as WorkflowFaulty}
+use Rattle.wh_replay.specs.declared.fault.RunFault.{RunFault}
+use Rattle.wh_replay.specs.declared.fault.RunFault.TheVariants.{Fault as Faulty, OutOfMemory}
+use Rattle.wh_replay.specs.declared.state.ReplayState.{ReplayState}
 use Rattle.wh_replay.specs.Replays.{ReplayResult, close_task, reached, task_after, unless_mismatch}
 use Rattle.wh_replay.specs.Views.{context_after}
 use Rattle.wh_replay.proofs.Stepping.{task_at}
 use Rattle.wh_explain.specs.declared.explanation.DetailLevel.{DetailLevel}
 use Rattle.wh_explain.specs.declared.explanation.DetailLevel.TheVariants.{Verdict, Steps}
-use Rattle.wh_explain.specs.declared.explanation.Ending.{Ending}
-use Rattle.wh_explain.specs.declared.explanation.Ending.TheVariants.{Refused, Live, Recorded}
-use Rattle.wh_explain.specs.declared.explanation.ExplainedTask.{ExplainedTask}
-use Rattle.wh_explain.specs.declared.explanation.Pairing.{Pairing}
-use Rattle.wh_explain.specs.declared.walk.TaskConclusion.{TaskConclusion}
+use Rattle.wh_explained_tasks.specs.declared.Ending.{Ending}
+use Rattle.wh_explained_tasks.specs.declared.Ending.TheVariants.{Refused, Live, Recorded}
+use Rattle.wh_explained_tasks.specs.declared.ExplainedTask.{ExplainedTask}
+use Rattle.wh_explained_tasks.specs.declared.Pairing.{Pairing}
 use Rattle.wh_explain.specs.Differences.{difference_at, difference_of, if_differs, last_difference, last_of}
-use Rattle.wh_explain.specs.Explaining.{IsTask, sent_ending, stops, unless_refused}
-use Rattle.wh_explain.specs.Pairings.{differs, pairings}
+use Rattle.wh_explain.specs.Explaining.{IsTask, IsTaskAt, sent_ending, stops, unless_refused}
+use Rattle.wh_explain.specs.Pairings.{differs}
+use Rattle.wh_explain.specs.Private.Explaining.{LeavesTask}
 use Rattle.wh_explain.specs.Private.Stepping.{Keeps, Leaves}
-use Rattle.wh_explain.specs.Private.Tasks.{IsEnd, difference_in, explained_task, fault_at, fault_of, if_some, is_passed, mismatch_at, mismatch_with, task_fault}
+use Rattle.wh_explain.specs.Private.Tasks.{AddsKept, AddsUnless, EndsTask, KeepsTask, KeepsTasks, OnFault, TakesTask, explained_task, fault_at, is_passed, mismatch_at, mismatch_with, task_fault}
 use Rattle.wh_explain.proofs.Agreeing.{activates, below_risen, differ_is, left_of, top}
-use Rattle.wh_explain.proofs.Found.{last_more}
-use Rattle.wh_explain.proofs.Popped.{last_pushed}
-use Rattle.wh_explain.proofs.Traced.{keeps_whole}
+use Rattle.wh_explain.proofs.Found.{last_more, last_pushed}
+use Rattle.wh_explain.proofs.Tasks.{same_ending, task_stepped}
 
 -- ---- what is kept
 
-pub keeps_more : {A : Type 0} (detail : DetailLevel) (kept whole : List A) (one : Option A) (other : A) → Keeps detail kept whole → Keeps detail one (Some other) → Keeps detail (kept ++ option_to_list one) (whole ++ other ∷ [])
-keeps_more Verdict kept whole one other all here = tt
-keeps_more Steps kept whole one other all here = ap (λ l. l ++ option_to_list one) all ∙ ap (λ o. whole ++ option_to_list o) here
+-- what is kept of a task with what is kept of its steps
+pub keeps_task : (detail : DetailLevel) (at : ℕ) (shown told given : List ℕ) (seen kept steps : List Step) (ending whole : Ending) → shown ≡ told → seen ≡ kept → Keeps detail told given → Keeps detail kept steps → ending ≡ whole
+    → KeepsTask detail (explained_task at shown seen ending) (explained_task at given steps whole)
+keeps_task Verdict at shown told given seen kept steps ending whole a b known all here = here
+keeps_task Steps at shown told given seen kept steps ending whole a b known all here =
+    ap (λ n. explained_task at n seen ending) (a ∙ known) ∙ (ap (λ l. explained_task at given l ending) (b ∙ all) ∙ ap (explained_task at given steps) here)
 
-pub keeps_task : (detail : DetailLevel) (at : ℕ) (told given : List ℕ) (kept steps : List Step) (ending : Option Ending) (whole : Ending) → Keeps detail told given → Keeps detail kept steps → Keeps detail ending (Some whole)
-    → Keeps detail (option_map (explained_task at told kept) ending) (Some (explained_task at given steps whole))
-keeps_task Verdict at told given kept steps ending whole known all here = tt
-keeps_task Steps at told given kept steps ending whole known all here =
-    ap (λ n. option_map (explained_task at n kept) ending) known ∙ (ap (λ l. option_map (explained_task at given l) ending) all ∙ ap (option_map (explained_task at given steps)) here)
+-- what is kept of tasks has their difference
+pub last_kept : (detail : DetailLevel) (kept tasks : List ExplainedTask) → KeepsTasks detail kept tasks → last_difference kept ≡ last_difference tasks
+last_kept Verdict kept tasks keeps = keeps
+last_kept Steps kept tasks keeps = ap last_difference keeps
+
+-- tasks are kept where they are the same
+pub keeps_tasks : (detail : DetailLevel) (kept tasks : List ExplainedTask) → kept ≡ tasks → KeepsTasks detail kept tasks
+keeps_tasks Verdict kept tasks is = ap last_difference is
+keeps_tasks Steps kept tasks is = is
+
+-- what is kept of tasks may be all of them
+pub keeps_all : (detail : DetailLevel) (kept tasks : List ExplainedTask) → KeepsTasks detail kept tasks → Keeps detail kept tasks
+keeps_all Verdict kept tasks keeps = tt
+keeps_all Steps kept tasks keeps = keeps
 
 -- ---- where nothing differs
 
@@ -65,34 +79,16 @@ differs_not : (found : Option Pairing) → IfSome found (λ one. differs one ≡
 differs_not None none = refl
 differs_not (Some pairing) none = ap (λ b. cond b (Some pairing) None) none
 
--- where nothing mismatches, no difference is shown
-no_difference : (events : List Event) (sent : List Command) (recorded : List Event) → mismatch events sent recorded ≡ None → if_differs (last_of (pairings events sent recorded)) ≡ None
-no_difference events sent recorded none =
-    let own = pairings events sent recorded in
-    differs_not (last_of own) (last_fails differs own (differ_is events 1 sent recorded ∙ ap is_some none))
+-- a task that does not stop shows no difference
+pub difference_free : (ending : Ending) → stops ending ≡ false → difference_at ending ≡ None
+difference_free Refused passes = absurd (cc)
+difference_free (Live sent) passes = refl
+difference_free (Recorded own) passes = differs_not (last_of own) (last_fails differs own passes)
 
 -- ---- the end of a task
 
--- a recorded task
-pub recorded_end : (detail : DetailLevel) (at : ℕ) (events : List Event) (sent : List Command) (recorded : List Event) (found : Option Mismatch) (end : TaskConclusion) → found ≡ mismatch events sent recorded
-    → Keeps detail end.ending (Some (Recorded (pairings events sent recorded))) → fault_of end.stop ≡ mismatch_at at found → difference_in end.stop ≡ if_some found (if_differs (last_of (pairings events sent recorded)))
-    → IsEnd detail at events sent None (Some recorded) end
-recorded_end detail at events sent recorded found end is keeps stop difference = record {
-  keeps = keeps;
-  stops_by = stop ∙ ap (mismatch_at at) is;
-  differs_in = difference ∙ by found (sym is);
-}
-  where
-    by : (found : Option Mismatch) → mismatch events sent recorded ≡ found → if_some found (if_differs (last_of (pairings events sent recorded))) ≡ if_differs (last_of (pairings events sent recorded))
-    by None none = sym (no_difference events sent recorded none)
-    by (Some first) some = refl
-
--- what is sent matters only where no command is refused
-pub end_along : (detail : DetailLevel) (at : ℕ) (events : List Event) (sent other : List Command) (fault : Option WorkflowFault) (recorded : Option (List Event)) (end : TaskConclusion) → (fault ≡ None → sent ≡ other) → IsEnd detail at events sent fault recorded end → IsEnd detail at events other fault recorded end
-end_along detail at events sent other None recorded end same ends = subst (λ l. IsEnd detail at events l None recorded end) (same refl) ends
-end_along detail at events sent other (Some fault) recorded end same ends = record { keeps = ends.keeps; stops_by = ends.stops_by; differs_in = ends.differs_in }
-
-same_fault : (at : ℕ) (events : List Event) (one other : List Command) (fault : Option WorkflowFault) (recorded : Option (List Event)) → (fault ≡ None → one ≡ other) → fault_at at fault (mismatch_with events one recorded) ≡ fault_at at fault (mismatch_with events other recorded)
+-- a task has the fault, or sends the same
+pub same_fault : (at : ℕ) (events : List Event) (one other : List Command) (fault : Option WorkflowFault) (recorded : Option (List Event)) → (fault ≡ None → one ≡ other) → fault_at at fault (mismatch_with events one recorded) ≡ fault_at at fault (mismatch_with events other recorded)
 same_fault at events one other None recorded same = ap (λ l. mismatch_at at (mismatch_with events l recorded)) (same refl)
 same_fault at events one other (Some fault) recorded same = refl
 
@@ -122,6 +118,30 @@ task_stops program events last number state settled task t =
 -- the difference of the last task
 pub last_differs : (done : List ExplainedTask) (task : ExplainedTask) → last_difference (done ++ task ∷ []) ≡ difference_at task.ending
 last_differs done task = ap difference_of (last_pushed done task)
+
+-- what is kept with that of one more task
+add_kept : (detail : DetailLevel) (before after done : List ExplainedTask) (task : ExplainedTask) → KeepsTasks detail before done → AddsKept detail task before after → KeepsTasks detail after (done ++ task ∷ [])
+add_kept Verdict before after done task keeps adds =
+    ap last_difference adds.added ∙ (last_differs before adds.kept ∙ (ap difference_at adds.keeps ∙ sym (last_differs done task)))
+add_kept Steps before after done task keeps adds = adds.added ∙ (ap (λ l. l ++ adds.kept ∷ []) keeps ∙ ap (λ x. done ++ x ∷ []) adds.keeps)
+
+pub keeps_more : (detail : DetailLevel) (before after done : List ExplainedTask) (task : ExplainedTask) (own fault : Option Fault) → KeepsTasks detail before done → last_difference done ≡ None → (fault ≡ None → difference_at task.ending ≡ None) → EndsTask detail task own before after fault
+    → KeepsTasks detail after (done ++ task ∷ [])
+keeps_more Verdict before after done task own None keeps none free ends = ap last_difference ends.added ∙ (keeps ∙ (none ∙ sym (last_differs done task ∙ free refl)))
+keeps_more Verdict before after done task own (Some fault) keeps none free ends = add_kept Verdict before after done task keeps ends.added
+keeps_more Steps before after done task own fault keeps none free ends = add_kept Steps before after done task keeps ends.added
+
+-- a task that is passed
+pub end_passed : (detail : DetailLevel) (task : ExplainedTask) (own found : Option Fault) (before after : List ExplainedTask) → found ≡ own → is_passed detail found ≡ true → after ≡ before → EndsTask detail task own before after None
+end_passed Verdict task own None before after is passes same = record { fault_is = is; added = same }
+end_passed Verdict task own (Some fault) before after is passes same = absurd (cc)
+end_passed Steps task own found before after is passes same = absurd (cc)
+
+-- and one that is kept
+pub end_kept : (detail : DetailLevel) (task : ExplainedTask) (own found fault : Option Fault) (before after : List ExplainedTask) → found ≡ own → is_passed detail found ≡ false → found ≡ fault → AddsKept detail task before after → EndsTask detail task own before after fault
+end_kept detail task own found fault before after is shown same adds =
+    subst (EndsTask detail task own before after) same
+    (record { fault_is = is; added = subst (λ b. AddsUnless b detail task before after) (sym shown) adds })
 
 -- ---- the replay of a task
 
@@ -157,26 +177,37 @@ module _ {S : Type 0} (program : Program S) (lawful : IsLawful program) (events 
       subst (λ r. LeavesBy r left.state left.script.settled (fault_at number fault (mismatch_with events (reduced context left.script.issued) context.recorded))) (sym is)
       (ended events context number left fault (below_risen left.meter current.meter (length task.steps) refl))
 
--- a recorded task that shows nothing
-pub passed_end : (detail : DetailLevel) (at : ℕ) (events : List Event) (sent : List Command) (recorded : List Event) (found : Option Mismatch) (end : TaskConclusion) → found ≡ mismatch events sent recorded → is_passed detail found ≡ true → end.ending ≡ None → end.stop ≡ None → IsEnd detail at events sent None (Some recorded) end
-passed_end Verdict at events sent recorded None end is passes ending stop = recorded_end Verdict at events sent recorded None end is tt (ap fault_of stop) (ap difference_in stop)
-passed_end Verdict at events sent recorded (Some first) end is passes ending stop = absurd (cc)
-passed_end Steps at events sent recorded found end is passes ending stop = absurd (cc)
+-- ---- what is found of a task
 
--- one that is shown
-pub shown_end : (detail : DetailLevel) (at : ℕ) (events : List Event) (sent : List Command) (recorded : List Event) (found : Option Mismatch) (end : TaskConclusion) (shown : List Pairing) → found ≡ mismatch events sent recorded → shown ≡ pairings events sent recorded → end.ending ≡ Some (Recorded shown)
-    → fault_of end.stop ≡ mismatch_at at found → difference_in end.stop ≡ if_some found (if_differs (last_of shown)) → IsEnd detail at events sent None (Some recorded) end
-shown_end detail at events sent recorded found end shown is same ending fault difference =
-    recorded_end detail at events sent recorded found end is (keeps_whole detail end.ending (Some (Recorded (pairings events sent recorded))) (ending ∙ ap (λ l. Some (Recorded l)) same)) fault
-    (difference ∙ ap (λ l. if_some found (if_differs (last_of l))) same)
+module _ {S : Type 0} (program : Program S) (detail : DetailLevel) (events : List Event) (context : ActivationContext) (told : List Job) (numbers : List ℕ) (at : ℕ) (state : S) (settled : Settled) where
+  -- what is found of a task that was stepped, and the fault that it has
+  pub record IsStepped (task : ExplainedTask) (own : Option Fault) (next : S) (more : Settled) : Type 0 where
+    pub explained : IsTaskAt program events context told numbers at state settled task
+    pub leaves : LeavesTask program state settled task next more
+    pub fault_is : own ≡ task_fault events context settled at task.steps
 
--- a task with an invalid command
-pub refused_end : (detail : DetailLevel) (at : ℕ) (events : List Event) (sent : List Command) (fault : WorkflowFault) (recorded : Option (List Event)) (end : TaskConclusion) → end.ending ≡ Some Refused → fault_of end.stop ≡ Some (WorkflowFaulty at fault) → difference_in end.stop ≡ None
-    → IsEnd detail at events sent (Some fault) recorded end
-refused_end detail at events sent fault recorded end ending stop difference = record { keeps = keeps_whole detail end.ending (Some Refused) ending; stops_by = stop; differs_in = difference }
+  pub is_stepped : (jobs : List Job) (from left next : S) (known versions more : Settled) (issued sent : List Command) (steps : List Step) (fault : Option WorkflowFault) → jobs ≡ told → from ≡ state → known ≡ settled
+      → IsLongest program context jobs from known steps → Leaves program context from known steps fault left versions issued → (fault ≡ None → sent ≡ reduced context issued) → next ≡ left → more ≡ versions
+      → IsStepped (explained_task at numbers steps (unless_refused fault (sent_ending events sent context.recorded))) (fault_at at fault (mismatch_with events sent context.recorded)) next more
+  is_stepped jobs from left next known versions more issued sent steps fault same begins knows longest leaves sends a b =
+      let task = explained_task at numbers steps (unless_refused fault (sent_ending events sent context.recorded)) in
+      let both = task_stepped program events context jobs told numbers at from state left next known settled versions more issued steps task fault same begins knows refl longest leaves refl refl
+      (same_ending fault events sent (reduced context issued) context.recorded sends) a b in
+      let P : Settled → Type 0 = λ v. fault_at at fault (mismatch_with events sent context.recorded) ≡ task_fault events context v at steps in
+      record {
+        explained = both.0;
+        leaves = both.1;
+        fault_is = subst P knows (same_fault at events sent (reduced context issued) fault context.recorded sends ∙ fault_by program events context at from left known versions steps fault issued leaves);
+      }
 
--- a task that is not recorded
-pub live_end : (detail : DetailLevel) (at : ℕ) (events : List Event) (sent shown : List Command) (recorded : Option (List Event)) (end : TaskConclusion) → recorded ≡ None → shown ≡ sent → end.ending ≡ Some (Live shown) → end.stop ≡ None → IsEnd detail at events sent None recorded end
-live_end detail at events sent shown recorded end none same ending stop =
-    subst (λ o. IsEnd detail at events sent None o end) (sym none)
-    (record { keeps = keeps_whole detail end.ending (Some (Live sent)) (ending ∙ ap (λ l. Some (Live l)) same); stops_by = ap fault_of stop; differs_in = ap difference_in stop })
+  -- one that ended
+  pub taken : (before after : List ExplainedTask) (result : Result (ReplayState S) RunFault) (task : ExplainedTask) (own fault : Option Fault) (next : S) (more : Settled) → IsStepped task own next more → EndsTask detail task own before after fault
+      → IfOk result (λ left. LeavesTask program state settled task left.state left.versions) → TakesTask detail program events context told numbers at state settled before after result fault
+  taken before after result task own fault next more stepped ends leaves =
+      record { task = task; explained = stepped.explained; ends = record { fault_is = ends.fault_is ∙ stepped.fault_is; added = ends.added }; leaves = leaves }
+
+  -- one that ended with a fault
+  pub fault_taken : (before after : List ExplainedTask) (task : ExplainedTask) (own : Option Fault) (next : S) (more : Settled) (fault : RunFault) → IsStepped task own next more → OnFault {A = Unit {0}} (Err fault) (EndsTask detail task own before after)
+      → OnFault {A = ReplayState S} (Err fault) (TakesTask detail program events context told numbers at state settled before after (Err fault))
+  fault_taken before after task own next more (Faulty fault) stepped ends = taken before after (Err (Faulty fault)) task own (Some fault) next more stepped ends tt
+  fault_taken before after task own next more OutOfMemory stepped ends = tt

@@ -1,7 +1,9 @@
 -- If replay stops at a difference, the explanation ends in it.
 use Rattle.std.proofs.Common.{◌≡◌, ◌∙◌, ℕ, suc, ◌+◌, ◌-◌, Bool, true, false, cond, List, [], ◌∷◌, ◌++◌, length, Option, Some, None, Result, Ok, Err, refl, sym, ap, subst, arith}
 use Rattle.std.specs.Prelude.{IsSome, slice_get, ⊤}
+use Rattle.std.proofs.lemmas.List.{length_push}
 use Rattle.std.specs.List.{list_any}
+use Rattle.wh_machines.proofs.Jumping.{slice_get_end}
 use Rattle.wh_events.specs.declared.event.Event.{Event}
 use Rattle.wh_events.specs.declared.place.PlaceFault.{PlaceFault}
 use Rattle.wh_events.specs.Cuts.{cuts}
@@ -26,18 +28,24 @@ use Rattle.wh_replay.specs.Views.{context_after}
 use Rattle.wh_replay.specs.Tracking.{in_place}
 use Rattle.wh_tester.specs.declared.line.Verdict.TheVariants.{Faulty}
 use Rattle.wh_tester.specs.Verdicts.{judged, read_and_judged, verdict_on}
-use Rattle.wh_explain.specs.declared.explanation.Ending.{Ending}
-use Rattle.wh_explain.specs.declared.explanation.Ending.TheVariants.{Refused, Live, Recorded}
-use Rattle.wh_explain.specs.declared.explanation.ExplainedTask.{ExplainedTask}
-use Rattle.wh_explain.specs.declared.explanation.RecordedEvent.{RecordedEvent}
-use Rattle.wh_explain.specs.declared.explanation.Pairing.{Pairing}
-use Rattle.wh_explain.specs.declared.explanation.Pairing.TheVariants.{Alike, Different, CommandMissing, CommandExtra}
+use Rattle.wh_explained_tasks.specs.declared.Ending.{Ending}
+use Rattle.wh_explained_tasks.specs.declared.Ending.TheVariants.{Refused, Live, Recorded}
+use Rattle.wh_explained_tasks.specs.declared.ExplainedTask.{ExplainedTask}
+use Rattle.wh_explained_tasks.specs.declared.RecordedEvent.{RecordedEvent}
+use Rattle.wh_explained_tasks.specs.declared.Pairing.{Pairing}
+use Rattle.wh_explained_tasks.specs.declared.Pairing.TheVariants.{Alike, Different, CommandMissing, CommandExtra}
 use Rattle.wh_explain.specs.Differences.{IsDifferenceIn, difference_at, difference_of, if_differs, last_difference, last_of}
 use Rattle.wh_explain.specs.Explaining.{sent_ending, unless_refused, IsTask, AreTasks, all, stopped, passed, AreTasksOf, AreTasksIn, AreTasksPlaced, AreTasksIf}
 use Rattle.wh_explain.specs.Laws.{EndAs, EndsDifferent}
 use Rattle.wh_explain.specs.Pairings.{pairings, recorded_event, differs, difference_from}
 use Rattle.wh_explain.proofs.Agreeing.{ends_as_replay}
-use Rattle.wh_explain.proofs.Popped.{last_pushed}
+
+-- the last of a list is what was pushed last
+pub last_pushed : {A : Type 0} (rest : List A) (x : A) → last_of (rest ++ x ∷ []) ≡ Some x
+last_pushed rest x =
+    let size = length_push rest x in
+    let place : length (rest ++ x ∷ []) - 1 ≡ length rest = omega arith in
+    ap (slice_get (rest ++ x ∷ [])) place ∙ slice_get_end rest x
 
 -- the last of a list with one element more in front
 pub last_more : {A : Type 0} (x y : A) (ys : List A) → last_of (x ∷ y ∷ ys) ≡ last_of (y ∷ ys)

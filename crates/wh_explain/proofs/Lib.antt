@@ -3,7 +3,6 @@ pub mod Tasks
 pub mod One
 pub mod Alike
 pub mod Agreeing
-pub mod Popped
 pub mod Found
 pub mod Ends
 pub mod Walked

@@ -12,8 +12,8 @@ use Rattle.wh_replay.specs.declared.fault.Fault.{Fault}
 use Rattle.wh_replay.specs.Replays.{workflow_of}
 use Rattle.wh_replay.specs.Tracking.{in_place}
 use Rattle.wh_replay.specs.Views.{context_after}
-use Rattle.wh_explain.specs.declared.explanation.Ending.{Ending}
-use Rattle.wh_explain.specs.declared.explanation.ExplainedTask.{ExplainedTask}
+use Rattle.wh_explained_tasks.specs.declared.Ending.{Ending}
+use Rattle.wh_explained_tasks.specs.declared.ExplainedTask.{ExplainedTask}
 use Rattle.wh_explain.specs.Explaining.{ending_of, stops, IsTask, AreTasks, all, stopped, passed, AreTasksIf, AreTasksPlaced}
 use Rattle.wh_explain.specs.Laws.{OneExplains}
 

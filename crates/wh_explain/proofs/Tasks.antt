@@ -1,5 +1,5 @@
 -- The tasks of a history, one after another.
-use Rattle.std.proofs.Common.{◌≡◌, ℕ, ◌-◌, true, false, List, [], ◌∷◌, ◌++◌, take, drop, slice_get, Option, Some, None, option_map, refl, sym, ap, subst, ◌∙◌, append_assoc, append-nil, IsTrue}
+use Rattle.std.proofs.Common.{◌≡◌, ℕ, ◌-◌, true, false, List, [], ◌∷◌, ◌++◌, take, drop, slice_get, Option, Some, None, refl, sym, ap, subst, ◌∙◌, append_assoc, append-nil, IsTrue}
 use Rattle.wh_events.specs.declared.event.Event.{Event}
 use Rattle.wh_events.specs.Cuts.{cuts}
 use Rattle.wh_machines.specs.Lookups.{events_between}
@@ -15,24 +15,12 @@ use Rattle.wh_activation.specs.Cutting.{jobs_in, jobs_at}
 use Rattle.wh_replay.specs.declared.cut.Cut.{Cut}
 use Rattle.wh_replay.specs.Views.{context_of}
 use Rattle.wh_replay.specs.Activating.{IsCutAfter}
-use Rattle.wh_explain.specs.declared.explanation.Ending.{Ending}
-use Rattle.wh_explain.specs.declared.explanation.Ending.TheVariants.{Live, Recorded}
-use Rattle.wh_explain.specs.declared.explanation.ExplainedTask.{ExplainedTask}
-use Rattle.wh_explain.specs.declared.explanation.Pairing.{Pairing}
+use Rattle.wh_explained_tasks.specs.declared.Ending.{Ending}
+use Rattle.wh_explained_tasks.specs.declared.ExplainedTask.{ExplainedTask}
 use Rattle.wh_explain.specs.Numbers.{numbers_at}
-use Rattle.wh_explain.specs.Pairings.{pairings}
 use Rattle.wh_explain.specs.Private.Stepping.{Leaves}
 use Rattle.wh_explain.specs.Explaining.{sent_ending, unless_refused, stops, IsTaskAt, IsTask, AreTasks, all, stopped, passed}
 use Rattle.wh_explain.specs.Private.Explaining.{LeavesTask}
-
--- a task that is not recorded
-pub live_ending : {A : Type 0} (events : List Event) (sent shown : List Command) (fault : Option WorkflowFault) (recorded : Option A) (seen : A → List Event) → fault ≡ None → recorded ≡ None → shown ≡ sent → Live shown ≡ unless_refused fault (sent_ending events sent (option_map seen recorded))
-live_ending events sent shown fault recorded seen free none is = ap Live is ∙ sym (ap (λ o. unless_refused o (sent_ending events sent (option_map seen recorded))) free ∙ ap (λ o. sent_ending events sent (option_map seen o)) none)
-
--- a task that is
-pub recorded_ending : {A : Type 0} (events : List Event) (sent : List Command) (shown : List Pairing) (fault : Option WorkflowFault) (recorded : Option A) (there : A) (seen : A → List Event) → fault ≡ None → recorded ≡ Some there → shown ≡ pairings events sent (seen there)
-    → Recorded shown ≡ unless_refused fault (sent_ending events sent (option_map seen recorded))
-recorded_ending events sent shown fault recorded there seen free some is = ap Recorded is ∙ sym (ap (λ o. unless_refused o (sent_ending events sent (option_map seen recorded))) free ∙ ap (λ o. sent_ending events sent (option_map seen o)) some)
 
 -- a task that does not stop has no fault
 pub no_fault : (fault : Option WorkflowFault) (whole ending : Ending) → whole ≡ unless_refused fault ending → stops whole ≡ false → fault ≡ None

@@ -1,47 +1,50 @@
 -- The tasks of a history, one after another, up to the first that has a fault.
-use Rattle.std.proofs.Common.{◌≡◌, ◌∙◌, ℕ, ◌≤◌, Bool, true, false, List, [], ◌∷◌, ◌++◌, length, take, drop, Option, Some, None, is_some, Err, refl, sym, ap, subst}
-use Rattle.std.specs.Prelude.{option_to_list}
+use Rattle.std.proofs.Common.{◌≡◌, ◌∙◌, ℕ, ◌≤◌, Bool, true, false, List, [], ◌∷◌, ◌++◌, length, take, drop, Option, Some, None, is_some, Result, Ok, Err, refl, sym, ap, subst}
 use Rattle.wh_events.specs.declared.event.Event.{Event}
 use Rattle.wh_events.specs.Cuts.{cuts}
+use Rattle.wh_activation.specs.Cutting.{jobs_at}
+use Rattle.wh_workflow.specs.Activations.{and_then}
 use Rattle.wh_workflow.specs.Law.{Program, IsLawful}
 use Rattle.wh_workflow.specs.Scripts.{Settled}
 use Rattle.wh_workflow.specs.ActivationScripts.{settled_after, state_after}
 use Rattle.wh_replay.specs.declared.cut.Cut.{Cut}
-use Rattle.wh_replay.specs.declared.fault.Fault.{Fault}
-use Rattle.wh_replay.specs.Activating.{IsCutAfter}
-use Rattle.wh_replay.specs.Checks.{ends_live, replay_result}
 use Rattle.wh_replay.specs.declared.fault.Checked.{Checked}
+use Rattle.wh_replay.specs.declared.fault.Fault.{Fault}
+use Rattle.wh_replay.specs.declared.fault.RunFault.{RunFault}
+use Rattle.wh_replay.specs.declared.fault.RunFault.TheVariants.{Fault as Faulty, OutOfMemory}
+use Rattle.wh_replay.specs.declared.state.ReplayState.{ReplayState}
+use Rattle.wh_replay.specs.Activating.{IsCutAfter}
+use Rattle.wh_replay.specs.Checks.{Answers, ends_live, replay_result}
 use Rattle.wh_split.specs.Splits.{first_of}
 use Rattle.wh_replay.specs.Replays.{ReplayResult, replay_after}
 use Rattle.wh_replay.specs.Views.{context_of, context_after}
 use Rattle.wh_replay.proofs.Stepping.{IsNext, no_cut, task_at, walk_err, walk_ok}
 use Rattle.wh_explain.specs.declared.explanation.DetailLevel.{DetailLevel}
-use Rattle.wh_explain.specs.declared.explanation.ExplainedTask.{ExplainedTask}
-use Rattle.wh_explain.specs.declared.walk.StopReason.{StopReason}
-use Rattle.wh_explain.specs.declared.walk.ExplainedTasks.{ExplainedTasks}
+use Rattle.wh_explained_tasks.specs.declared.ExplainedTask.{ExplainedTask}
 use Rattle.wh_explain.specs.Differences.{difference_at, last_difference}
 use Rattle.wh_explain.specs.Explaining.{IsTask, stops}
-use Rattle.wh_explain.specs.Private.Stepping.{Keeps}
-use Rattle.wh_explain.specs.Private.Tasks.{EndsBy, IsWalk, difference_in, fault_of, task_fault}
+use Rattle.wh_explain.specs.Numbers.{numbers_at}
+use Rattle.wh_explain.specs.Private.Tasks.{AreKept, EndsTask, KeepsTasks, OnFault, TakesTask, task_fault, walked}
 use Rattle.wh_explain.specs.Private.Explaining.{LeavesTask}
 use Rattle.wh_explain.proofs.Agreeing.{top}
-use Rattle.wh_explain.proofs.Ends.{LeavesBy, keeps_more, last_differs, task_leaves, task_stops}
-use Rattle.wh_explain.proofs.Tasks.{Continues, goes_past, no_cut_left, stops_here}
+use Rattle.wh_explain.proofs.Ends.{LeavesBy, difference_free, keeps_more, last_differs, task_leaves, task_stops}
+use Rattle.wh_explain.proofs.Tasks.{Continues, goes_past, no_cut_left, stops_here, task_here}
 
--- what is found of a task, at the number of its cut in the history
-pub fault_here : (events : List Event) (last : ℕ) (cut : Cut) (settled : Settled) (task : ExplainedTask) (stop : Option StopReason) → IsCutAfter events last cut
-    → fault_of stop ≡ task_fault cut.track.now (context_of cut) settled cut.number task.steps → fault_of stop ≡ task_fault events (context_after events last cut.number) settled cut.number task.steps
-fault_here events last cut settled task stop is here =
+-- the fault of a task, at the number of its cut in the history
+pub fault_here : (events : List Event) (last : ℕ) (cut : Cut) (settled : Settled) (task : ExplainedTask) (fault : Option Fault) → IsCutAfter events last cut
+    → fault ≡ task_fault cut.track.now (context_of cut) settled cut.number task.steps → fault ≡ task_fault events (context_after events last cut.number) settled cut.number task.steps
+fault_here events last cut settled task fault is here =
     here ∙ (ap (λ l. task_fault l (context_of cut) settled cut.number task.steps) is.history ∙ ap (λ k. task_fault events k settled cut.number task.steps) is.context)
 
-both_ways : {A : Type 0} (one : A) (found : Option A) → found ≡ Some one → found ≡ None → ⊥
-both_ways one found some none = cc
+-- the result of a check, made of these values
+abbrev checked_as : ℕ → Bool → Result Checked Fault
+checked_as tasks live = Ok (record { tasks = tasks; live = live })
 
 module _ {S : Type 0} (program : Program S) (events : List Event) (start : S) (settled : Settled) where
   -- the tasks so far, none of which has a fault
   pub record AreDone (detail : DetailLevel) (kept : List ExplainedTask) (last : ℕ) (state : S) (versions : Settled) : Type 0 where
     pub done : List ExplainedTask
-    pub keeps : Keeps detail kept done
+    pub keeps : KeepsTasks detail kept done
     pub continues : Continues program events start settled done last state versions
     pub alike : last_difference done ≡ None
 
@@ -87,47 +90,69 @@ module _ {S : Type 0} (program : Program S) (lawful : IsLawful program) (events 
         same = walk_ok program events last number current at.0 n at.1 ∙ reached.same;
       }
 
+  -- a task without a fault shows no difference
+  free : (last number : ℕ) (state : S) (versions : Settled) (task : ExplainedTask) (fault : Option Fault) → IsTask program events last number state versions task → fault ≡ task_fault events (context_after events last number) versions number task.steps
+      → fault ≡ None → difference_at task.ending ≡ None
+  free last number state versions task fault t is none = difference_free task.ending (sym (task_stops program events last number state versions task t) ∙ ap is_some (sym is ∙ none))
+
   -- one more task, without a fault
-  pub done_more : (detail : DetailLevel) (kept more : List ExplainedTask) (one : Option ExplainedTask) (last number : ℕ) (state next : S) (versions leaves : Settled) (task : ExplainedTask) → more ≡ kept ++ option_to_list one → AreDone program events start settled detail kept last state versions
-      → cuts (drop last events) ≡ number ∷ cuts (drop number events) → IsTask program events last number state versions task → Keeps detail one (Some task) → None ≡ task_fault events (context_after events last number) versions number task.steps → None ≡ difference_at task.ending
+  pub done_more : (detail : DetailLevel) (kept more : List ExplainedTask) (own : Option Fault) (last number : ℕ) (state next : S) (versions leaves : Settled) (task : ExplainedTask) → EndsTask detail task own kept more None → AreDone program events start settled detail kept last state versions
+      → cuts (drop last events) ≡ number ∷ cuts (drop number events) → IsTask program events last number state versions task → None ≡ task_fault events (context_after events last number) versions number task.steps
       → LeavesTask program state versions task next leaves → AreDone program events start settled detail more number next leaves
-  done_more detail kept more one last number state next versions leaves task added done counts t keep fault difference left =
+  done_more detail kept more own last number state next versions leaves task ends done counts t fault left =
       let passes : stops task.ending ≡ false = sym (task_stops program events last number state versions task t) ∙ ap is_some (sym fault) in
       let both = left passes in
-      let tasks = done.done ++ task ∷ [] in
+      let none = free last number state versions task None t fault in
       record {
-        done = tasks;
-        keeps = subst (λ l. Keeps detail l tasks) (sym added) (keeps_more detail kept done.done one task done.keeps keep);
-        continues = goes_past program events start state next settled versions leaves done.done tasks last number task counts done.continues t both.0 both.1 passes refl;
-        alike = last_differs done.done task ∙ sym difference;
+        done = done.done ++ task ∷ [];
+        keeps = keeps_more detail kept more done.done task own None done.keeps done.alike none ends;
+        continues = goes_past program events start state next settled versions leaves done.done (done.done ++ task ∷ []) last number task counts done.continues t both.0 both.1 passes refl;
+        alike = last_differs done.done task ∙ none refl;
       }
 
   -- a task that has a fault is the last
-  pub walk_stopped : (detail : DetailLevel) (walk : ExplainedTasks) (stop : StopReason) (kept more : List ExplainedTask) (one : Option ExplainedTask) (last number : ℕ) (state : S) (versions : Settled) (task : ExplainedTask) → walk.tasks.items ≡ more → more ≡ kept ++ option_to_list one → walk.stop ≡ Some stop
-      → AreDone program events start settled detail kept last state versions → HasReached program events start settled last state versions → IsNext events last number → cuts (drop last events) ≡ number ∷ cuts (drop number events) → IsTask program events last number state versions task → Keeps detail one (Some task)
-      → Some stop.fault ≡ task_fault events (context_after events last number) versions number task.steps → stop.difference ≡ difference_at task.ending → IsWalk detail program events start settled walk
-  walk_stopped detail walk stop kept more one last number state versions task same added some done reached n counts t keep fault difference =
-      let stopping : stops task.ending ≡ true = sym (task_stops program events last number state versions task t) ∙ ap is_some (sym fault) in
+  pub kept_stopped : (detail : DetailLevel) (kept more : List ExplainedTask) (own : Option Fault) (fault : Fault) (last number : ℕ) (state : S) (versions : Settled) (task : ExplainedTask) → EndsTask detail task own kept more (Some fault) → AreDone program events start settled detail kept last state versions
+      → cuts (drop last events) ≡ number ∷ cuts (drop number events) → IsTask program events last number state versions task → Some fault ≡ task_fault events (context_after events last number) versions number task.steps → AreKept detail program events start settled more
+  kept_stopped detail kept more own fault last number state versions task ends done counts t is =
+      let stopping : stops task.ending ≡ true = sym (task_stops program events last number state versions task t) ∙ ap is_some (sym is) in
       let tasks = done.done ++ task ∷ [] in
       record {
         tasks = tasks;
         explained = stops_here program events start state settled versions done.done tasks last number task counts done.continues t stopping refl;
-        keeps = subst (λ l. Keeps detail l tasks) (sym (same ∙ added)) (keeps_more detail kept done.done one task done.keeps keep);
-        differs_in = ap difference_in some ∙ (difference ∙ sym (last_differs done.done task));
-        ends = subst (λ o. EndsBy (replay_after program [] [] events (replay_result start settled [] 0)) (fault_of o)) (sym some) (ends_here last number state versions task stop.fault reached n t fault);
-        counted = λ none. absurd (both_ways stop walk.stop some none);
-        lives = λ none. absurd (both_ways stop walk.stop some none);
+        keeps = keeps_more detail kept more done.done task own (Some fault) done.keeps done.alike (free last number state versions task (Some fault) t is) ends;
       }
 
+  -- the walk stops at the fault of a task, or without memory
+  pub fault_walked : (detail : DetailLevel) (kept more : List ExplainedTask) (last : ℕ) (cut : Cut) (state : S) (versions : Settled) (result : Result (ReplayState S) RunFault) (fault : RunFault) → IsCutAfter events last cut → IsNext events last cut.number → HasReached program events start settled last state versions
+      → OnFault {A = ReplayState S} (Err fault) (TakesTask detail program cut.track.now (context_of cut) (jobs_at cut.track.now cut.previous cut.number) (numbers_at cut.track.now cut.previous cut.number) cut.number state versions kept more result)
+      → Answers {A = Checked} (Err fault) (walked program events start settled) (λ found. found)
+  fault_walked detail kept more last cut state versions result (Faulty fault) is n reached t =
+      let here = task_here program events last cut state versions t.task is t.explained in
+      let known = fault_here events last cut versions t.task (Some fault) is t.ends.fault_is in
+      let found : ReplayResult S → Result Checked Fault = λ _. checked_as (length (cuts events)) (ends_live events) in
+      ap (λ r. and_then r found) (ends_here last cut.number state versions t.task fault reached n here known)
+  fault_walked detail kept more last cut state versions result OutOfMemory is n reached t = tt
+
+  pub fault_kept : (detail : DetailLevel) (kept more : List ExplainedTask) (last : ℕ) (cut : Cut) (state : S) (versions : Settled) (result : Result (ReplayState S) RunFault) (fault : RunFault) → IsCutAfter events last cut → AreDone program events start settled detail kept last state versions
+      → OnFault {A = ReplayState S} (Err fault) (TakesTask detail program cut.track.now (context_of cut) (jobs_at cut.track.now cut.previous cut.number) (numbers_at cut.track.now cut.previous cut.number) cut.number state versions kept more result)
+      → OnFault {A = Checked} (Err fault) (λ _. AreKept detail program events start settled more)
+  fault_kept detail kept more last cut state versions result (Faulty fault) is done t =
+      let here = task_here program events last cut state versions t.task is t.explained in
+      let known = fault_here events last cut versions t.task (Some fault) is t.ends.fault_is in
+      kept_stopped detail kept more _ fault last cut.number state versions t.task t.ends done is.first here known
+  fault_kept detail kept more last cut state versions result OutOfMemory is done t = tt
+
   -- no cut is left
-  pub walk_ended : (detail : DetailLevel) (walk : ExplainedTasks) (kept : List ExplainedTask) (count last : ℕ) (live : Bool) (state : S) (versions : Settled) → walk.tasks.items ≡ kept → walk.stop ≡ None → walk.checked ≡ record { tasks = count; live = live }
-      → AreDone program events start settled detail kept last state versions → HasReached program events start settled last state versions → cuts (drop last events) ≡ [] → count ≡ length (cuts events) → live ≡ ends_live events → IsWalk detail program events start settled walk
-  walk_ended detail walk kept count last live state versions same none checks done reached left counted lives = record {
+  pub kept_ended : (detail : DetailLevel) (kept : List ExplainedTask) (last : ℕ) (state : S) (versions : Settled) → AreDone program events start settled detail kept last state versions → cuts (drop last events) ≡ [] → AreKept detail program events start settled kept
+  kept_ended detail kept last state versions done left = record {
     tasks = done.done;
     explained = no_cut_left program events start state settled versions done.done last left done.continues;
-    keeps = subst (λ l. Keeps detail l done.done) (sym same) done.keeps;
-    differs_in = ap difference_in none ∙ sym done.alike;
-    ends = subst (λ o. EndsBy (replay_after program [] [] events (replay_result start settled [] 0)) (fault_of o)) (sym none) (reached.current, sym reached.same ∙ no_cut program (take last events) [] (drop last events) reached.current (ap first_of left));
-    counted = λ _. ap (λ (c : Checked). c.tasks) checks ∙ counted;
-    lives = λ _. ap (λ (c : Checked). c.live) checks ∙ lives;
+    keeps = done.keeps;
   }
+
+  pub walk_ended : (count last : ℕ) (live : Bool) (state : S) (versions : Settled) → HasReached program events start settled last state versions → cuts (drop last events) ≡ [] → count ≡ length (cuts events) → live ≡ ends_live events
+      → walked program events start settled ≡ Ok (record { tasks = count; live = live })
+  walk_ended count last live state versions reached left counted lives =
+      let whole = sym reached.same ∙ no_cut program (take last events) [] (drop last events) reached.current (ap first_of left) in
+      let found : ReplayResult S → Result Checked Fault = λ _. checked_as (length (cuts events)) (ends_live events) in
+      ap (λ r. and_then r found) whole ∙ (ap (λ n. checked_as n (ends_live events)) (sym counted) ∙ ap (checked_as count) (sym lives))

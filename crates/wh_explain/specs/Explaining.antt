@@ -16,9 +16,9 @@ use Rattle.wh_replay.specs.declared.fault.Fault.{Fault}
 use Rattle.wh_replay.specs.Replays.{workflow_of}
 use Rattle.wh_replay.specs.Tracking.{in_place}
 use Rattle.wh_replay.specs.Views.{context_after}
-use Rattle.wh_explain.specs.declared.explanation.Ending.{Ending}
-use Rattle.wh_explain.specs.declared.explanation.Ending.TheVariants.{Refused, Live, Recorded}
-use Rattle.wh_explain.specs.declared.explanation.ExplainedTask.{ExplainedTask}
+use Rattle.wh_explained_tasks.specs.declared.Ending.{Ending}
+use Rattle.wh_explained_tasks.specs.declared.Ending.TheVariants.{Refused, Live, Recorded}
+use Rattle.wh_explained_tasks.specs.declared.ExplainedTask.{ExplainedTask}
 use Rattle.wh_explain.specs.Numbers.{numbers_at}
 use Rattle.wh_explain.specs.Pairings.{pairings, differs}
 
@@ -95,17 +95,3 @@ module _ {S : Type 0} where
   abbrev pub AreTasksIn : Program S → Result (List Event) ReadFault → List ExplainedTask → Type 0
   AreTasksIn program (Ok events) tasks = AreTasksOf program events tasks
   AreTasksIn program (Err fault) tasks = tasks ≡ []
-
-  -- the workflow type of events in place, if it is not registered
-  abbrev pub unknown_placed : Program S → Result (List Event) Fault → Option (List ℕ)
-  unknown_placed program (Err fault) = None
-  unknown_placed program (Ok events) = if program.knows (workflow_of events) then None else Some (workflow_of events)
-
-  -- the workflow type of a history in place, if it is not registered
-  abbrev pub unknown_of : Program S → List Event → Option (List ℕ)
-  unknown_of program events = unknown_placed program (in_place (history_fault events) events)
-
-  -- the workflow type of the history of a file, if it can be read and is in place, and the type is not registered
-  abbrev pub unknown_in : Program S → Result (List Event) ReadFault → Option (List ℕ)
-  unknown_in program (Ok events) = unknown_of program events
-  unknown_in program (Err fault) = None

@@ -8,9 +8,9 @@ use Rattle.wh_workflow.specs.Law.{Program}
 use Rattle.wh_replay.specs.declared.fault.Fault.{Fault}
 use Rattle.wh_replay.specs.declared.fault.Fault.TheVariants.{NotATask, Place, Workflow, Mismatch}
 use Rattle.wh_replay.specs.Replays.{ReplayResult, workflow_of, replay_tasks}
-use Rattle.wh_explain.specs.declared.explanation.Ending.TheVariants.{Refused, Recorded}
-use Rattle.wh_explain.specs.declared.explanation.Pairing.{Pairing}
-use Rattle.wh_explain.specs.declared.explanation.ExplainedTask.{ExplainedTask}
+use Rattle.wh_explained_tasks.specs.declared.Ending.TheVariants.{Refused, Recorded}
+use Rattle.wh_explained_tasks.specs.declared.Pairing.{Pairing}
+use Rattle.wh_explained_tasks.specs.declared.ExplainedTask.{ExplainedTask}
 use Rattle.wh_explain.specs.Pairings.{difference_from}
 use Rattle.wh_explain.specs.Explaining.{stops, AreTasksOf}
 

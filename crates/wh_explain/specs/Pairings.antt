@@ -8,9 +8,9 @@ use Rattle.wh_workflow.specs.declared.fault.Mismatch.{Mismatch}
 use Rattle.wh_workflow.specs.declared.fault.Mismatch.TheVariants as mismatches
 use Rattle.wh_workflow.specs.Jobs.{id_at}
 use Rattle.wh_workflow.specs.Names.{names}
-use Rattle.wh_explain.specs.declared.explanation.RecordedEvent.{RecordedEvent}
-use Rattle.wh_explain.specs.declared.explanation.Pairing.{Pairing}
-use Rattle.wh_explain.specs.declared.explanation.Pairing.TheVariants.{Alike, Different, CommandMissing, CommandExtra}
+use Rattle.wh_explained_tasks.specs.declared.RecordedEvent.{RecordedEvent}
+use Rattle.wh_explained_tasks.specs.declared.Pairing.{Pairing}
+use Rattle.wh_explained_tasks.specs.declared.Pairing.TheVariants.{Alike, Different, CommandMissing, CommandExtra}
 
 -- the id of what an event of the role refers to by a number
 abbrev pub referred_by : List Event → Role → List ℕ

@@ -8,10 +8,10 @@ use Rattle.wh_json.specs.declared.fault.ReadFault.{ReadFault}
 use Rattle.wh_json.specs.declared.fault.ReadFault.TheVariants.{OutOfMemory}
 use Rattle.wh_workflow.specs.Law.{Program}
 use Rattle.wh_tester.specs.Verdicts.{IsVerdict}
-use Rattle.wh_explain.specs.declared.explanation.ExplainedTask.{ExplainedTask}
-use Rattle.wh_explain.specs.declared.findings.Finding.{Finding}
+use Rattle.wh_explain.specs.declared.explanation.Explanation.{Explanation}
 use Rattle.wh_explain.specs.Differences.{last_difference}
-use Rattle.wh_explain.specs.Explaining.{AreTasksIn, unknown_in}
+use Rattle.wh_explain.specs.Explaining.{AreTasksIn}
+use Rattle.wh_tester.specs.UnknownTypes.{unknown_in}
 
 -- the result of reading the bytes of a file: its history, the first fault, or that there was no memory, which is never
 -- the result for a file that is too long
@@ -19,11 +19,10 @@ pub record IsReadOf (bytes : List ℕ) (read : Result (Vec Event Global) ReadFau
   pub exact : Gives (λ events. events.items) read (history bytes)
   pub memory : IfErr read (λ fault. fault ≡ OutOfMemory → length bytes ≤ longest)
 
--- what the replay of a file finds, and its tasks: its verdict, the workflow type if it is not registered, and the
--- difference that the tasks end in
-pub record AreExplained {S : Type 0} (program : Program S) (bytes : List ℕ) (finding : Finding)
-    (tasks : List ExplainedTask) : Type 0 where
-  pub explained : AreTasksIn program (history bytes) tasks
-  pub unknown : finding.unknown ≡ unknown_in program (history bytes)
-  pub verdict : IsVerdict program bytes finding.verdict
-  pub difference : finding.difference ≡ last_difference tasks
+-- the explanation of a file: its tasks, the workflow type if it is not registered, the verdict on it, and the difference
+-- that the tasks end in
+pub record IsExplanationIn {S : Type 0} (program : Program S) (bytes : List ℕ) (own : Explanation) : Type 0 where
+  pub explained : AreTasksIn program (history bytes) own.tasks
+  pub unknown : own.unknown ≡ unknown_in program (history bytes)
+  pub verdict : IsVerdict program bytes own.verdict
+  pub difference : own.difference ≡ last_difference own.tasks

@@ -10,7 +10,8 @@ mod pairing;
 mod stepping;
 mod walk;
 
-pub use explanation::{Ending, ExplainedTask, Explanation, Pairing, RecordedEvent, Step};
-pub use findings::{Finding, check_file, explain, explain_read, unknown_type};
+pub use explanation::Explanation;
+pub use findings::{check_file, explain, explain_read};
 pub use numbers::{left_after, number_of};
 pub use pairing::differs;
+pub use wh_explained_tasks::{Ending, ExplainedTask, Pairing, RecordedEvent, Step};

@@ -2,12 +2,12 @@
 ghost use Rattle.std.specs.Prelude.{◌≡◌, ◌++◌, ◌∷◌, [], List, if◌then◌else◌, IfOk, OnOk, IsOkAnd};
 ghost use Rattle.wh_events.specs.declared.event.Event.{Event};
 ghost use Rattle.wh_events.specs.Cuts.{is_commanded, commanded};
-ghost use Rattle.wh_explain.specs.declared.explanation.Pairing.TheVariants.{Alike, Different, CommandMissing, CommandExtra};
+ghost use Rattle.wh_explained_tasks.specs.declared.Pairing.TheVariants.{Alike, Different, CommandMissing, CommandExtra};
 ghost use Rattle.wh_explain.specs.Pairings.{referred_id, recorded_event, pairing_of, pairings, differs};
 
-use crate::explanation::{Pairing, RecordedEvent};
 use std::alloc::Global;
 use wh_events::{Class, Event, OutOfMemory, Role, Text, opened_id};
+use wh_explained_tasks::{Pairing, RecordedEvent};
 use wh_workflow::Command;
 
 /// Returns the id of what the event refers to by a number, or nothing if it refers to nothing so.

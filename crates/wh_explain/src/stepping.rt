@@ -7,9 +7,10 @@ ghost use Rattle.wh_replay.specs.Views.{context_of, progress_of, turn_of};
 ghost use Rattle.wh_replay.specs.Activating.{Gives, IsWithin, IsOf};
 ghost use Rattle.wh_explain.specs.Private.Stepping.{AddsOneStep, AddsStep, Keeps, Ran, Shows};
 
-use crate::explanation::{DetailLevel, Step};
+use crate::explanation::DetailLevel;
 use std::alloc::Global;
 use wh_events::OutOfMemory;
+use wh_explained_tasks::Step;
 use wh_match::ScriptFault;
 use wh_replay::{Activation, Cut, IssueFault, copy_commands};
 use wh_workflow::{Command, Job, Meter, Workflow, WorkflowFault};

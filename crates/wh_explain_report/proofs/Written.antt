@@ -4,7 +4,7 @@ use Rattle.std.proofs.Math.Seq.{drop-cons}
 use Rattle.std.specs.List.{flat_map, filter}
 use Rattle.wh_workflow.specs.ActivationScripts.{Step}
 use Rattle.wh_explain.specs.Numbers.{left_after, number_of}
-use Rattle.wh_explain.specs.declared.explanation.ExplainedTask.{ExplainedTask}
+use Rattle.wh_explained_tasks.specs.declared.ExplainedTask.{ExplainedTask}
 use Rattle.wh_explain_report.specs.Texts.{step_text, steps_text, task_text}
 use Rattle.wh_explain_report.specs.Json.{step_objects, steps_objects}
 use Rattle.wh_explain_report.specs.Alike.{alike_tasks}

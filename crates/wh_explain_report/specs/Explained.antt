@@ -1,21 +1,20 @@
 -- What a file that is explained gives.
 use Rattle.std.specs.Prelude.{◌≡◌, ℕ, List, [], ◌++◌, Option, Some, None, if◌then◌else◌, unwrap_or}
 use Rattle.std.specs.Io.KnownBytes.{Appends}
-use Rattle.wh_json.specs.Events.{history}
 use Rattle.wh_workflow.specs.Law.{Program}
-use Rattle.wh_tester.specs.Report.{all_good}
-use Rattle.wh_tester.specs.Verdicts.{IsVerdict}
+use Rattle.wh_tester.specs.Report.{all_good, line_text}
 use Rattle.wh_tester.specs.declared.line.Line.{Line}
-use Rattle.wh_explain.specs.Explaining.{AreTasksIn, unknown_in}
-use Rattle.wh_explain_report.specs.Json.{json_explanation}
+use Rattle.wh_explain.specs.Reading.{IsExplanationIn}
+use Rattle.wh_explain_report.specs.Json.{json_explanation, last_object}
 use Rattle.wh_explain_report.specs.Explanations.{explanation_text}
 use Rattle.wh_view.specs.Views.{IsViewIn}
 use Rattle.wh_view.specs.declared.view.View.{View}
-use Rattle.wh_view_report.specs.declared.text.Selection.{Selection}
-use Rattle.wh_view_report.specs.declared.text.Selection.TheVariants.{All}
+use Rattle.wh_console.specs.declared.selection.Selection.{Selection}
+use Rattle.wh_console.specs.declared.selection.Selection.TheVariants.{All}
 use Rattle.wh_view_report.specs.Json.{view_objects}
 use Rattle.wh_view_report.specs.Texts.{view_text}
 use Rattle.wh_explain.specs.declared.explanation.Explanation.{Explanation}
+use Rattle.wh_explained_tasks.specs.declared.Pairing.{Pairing}
 use Rattle.wh_console.specs.declared.format.Format.{Format}
 use Rattle.wh_console.specs.declared.format.Format.TheVariants.{Text, Json}
 
@@ -23,6 +22,11 @@ use Rattle.wh_console.specs.declared.format.Format.TheVariants.{Text, Json}
 abbrev pub explanation_as : Option Selection → Format → Explanation → List ℕ
 explanation_as selection Json explanation = json_explanation selection explanation
 explanation_as selection Text explanation = explanation_text selection explanation
+
+-- the line of a file in the report of replay, as text, or as JSON with the difference that its tasks end in, if they do
+abbrev pub line_as : Format → Line → Option Pairing → List ℕ
+line_as Json line difference = last_object line difference
+line_as Text line difference = line_text line
 
 -- the view of the tasks that are selected, as text or as JSON
 abbrev pub view_as : Selection → Format → View → List ℕ
@@ -34,29 +38,28 @@ abbrev pub viewed_as : Option Selection → Format → Option View → List ℕ
 viewed_as selection format None = []
 viewed_as selection format (Some view) = view_as (unwrap_or selection All) format view
 
--- the explanation, and the view after it, if there is one
-abbrev pub explained_as : Option Selection → Format → Explanation → Option View → List ℕ
-explained_as selection format explanation view =
-    explanation_as selection format explanation ++ viewed_as selection format view
+-- the explanation, the line of the file, and the view after them, if there is one
+abbrev pub explained_as : Option Selection → Format → Explanation → Line → Option View → List ℕ
+explained_as selection format explanation line view =
+    explanation_as selection format explanation
+    ++ (line_as format line explanation.difference ++ viewed_as selection format view)
 
 -- there is a view of the bytes if the workflow type is not registered
 abbrev pub IsViewedIf : Option (List ℕ) → List ℕ → Option View → Type 0
 IsViewedIf None bytes view = view ≡ None
 IsViewedIf (Some kind) bytes view = (own : View) × (view ≡ Some own) × IsViewIn bytes own
 
--- a file was explained, and this is its line in the report of replay: the explanation that has this line was written,
+-- a file was explained, and this is its line in the report of replay: its explanation was written, with this line, and
 -- with what is recorded in the file if its workflow type is not registered
 pub record IsExplained {S : Type 0} (program : Program S) (name bytes : List ℕ) (selection : Option Selection)
     (format : Format) (old new : Option (List ℕ)) (own : Line) : Type 0 where
   pub explanation : Explanation
   pub view : Option View
-  pub tasks : AreTasksIn program (history bytes) explanation.tasks
-  pub unknown : explanation.unknown ≡ unknown_in program (history bytes)
-  pub line : explanation.line ≡ own
+  pub found : IsExplanationIn program bytes explanation
   pub named : own.name ≡ name
-  pub verdict : IsVerdict program bytes own.verdict
+  pub verdict : own.verdict ≡ explanation.verdict
   pub viewed : IsViewedIf explanation.unknown bytes view
-  pub written : Appends old new (explained_as selection format explanation view)
+  pub written : Appends old new (explained_as selection format explanation own view)
 
 -- 0 if each file is good, and else 1
 abbrev pub status_of : List Line → ℕ

@@ -1,14 +1,12 @@
 -- The text of an explanation.
 use Rattle.std.specs.Prelude.{ℕ, List, ◌++◌, Option}
-use Rattle.wh_view_report.specs.declared.text.Selection.{Selection}
-use Rattle.wh_tester.specs.Report.{is_good, line_text}
+use Rattle.wh_console.specs.declared.selection.Selection.{Selection}
+use Rattle.wh_tester.specs.Report.{is_good}
 use Rattle.wh_explain.specs.declared.explanation.Explanation.{Explanation}
 use Rattle.wh_explain_report.specs.TaskTexts.{chosen_text}
 use Rattle.wh_explain_report.specs.Texts.{unknown_line}
 
--- the whole text: the workflow type, if it is not registered, the tasks in their order, and the line of the file as in
--- the report of replay
+-- the text of an explanation: the workflow type, if it is not registered, and the tasks in their order
 unfoldable pub explanation_text : Option Selection → Explanation → List ℕ
 explanation_text selection explanation =
-    unknown_line explanation.unknown
-    ++ (chosen_text selection (is_good explanation.line.verdict) explanation.tasks ++ line_text explanation.line)
+    unknown_line explanation.unknown ++ chosen_text selection (is_good explanation.verdict) explanation.tasks

@@ -6,17 +6,17 @@ use Rattle.wh_workflow.specs.declared.job.Job.{Job}
 use Rattle.wh_workflow.specs.ActivationScripts.{Step}
 use Rattle.wh_tester.specs.Report.{shown}
 use Rattle.wh_tester.specs.Json.{text_member}
-use Rattle.wh_explain.specs.declared.explanation.Pairing.{Pairing}
-use Rattle.wh_explain.specs.declared.explanation.Ending.{Ending}
-use Rattle.wh_explain.specs.declared.explanation.Ending.TheVariants.{Refused, Live, Recorded}
-use Rattle.wh_explain.specs.declared.explanation.ExplainedTask.{ExplainedTask}
+use Rattle.wh_explained_tasks.specs.declared.Pairing.{Pairing}
+use Rattle.wh_explained_tasks.specs.declared.Ending.{Ending}
+use Rattle.wh_explained_tasks.specs.declared.Ending.TheVariants.{Refused, Live, Recorded}
+use Rattle.wh_explained_tasks.specs.declared.ExplainedTask.{ExplainedTask}
 use Rattle.wh_explain.specs.declared.explanation.Explanation.{Explanation}
-use Rattle.wh_explain.specs.Differences.{last_difference}
+use Rattle.wh_tester.specs.declared.line.Line.{Line}
 use Rattle.wh_explain.specs.Numbers.{left_after, number_of}
 use Rattle.wh_explain.specs.Pairings.{differs}
 use Rattle.wh_phrases.specs.Json.{command_json, job_json, sends_member, pairing_members, difference_members}
 use Rattle.wh_phrases.specs.Json.{json_line_with}
-use Rattle.wh_view_report.specs.declared.text.Selection.{Selection}
+use Rattle.wh_console.specs.declared.selection.Selection.{Selection}
 use Rattle.wh_explain_report.specs.Selections.{selected_or_all}
 use Rattle.wh_explain_report.specs.Texts.{last_command}
 
@@ -75,14 +75,11 @@ abbrev pub unknown_object : Option (List ℕ) → List ℕ
 unknown_object None = []
 unknown_object (Some kind) = codes "{" ++ (text_member (codes "unknownWorkflow") (shown kind) ++ codes "}\n")
 
--- the object of the file, with the difference in which its tasks end, if they end in one
-abbrev pub last_object : Explanation → List ℕ
-last_object explanation =
-    json_line_with explanation.line (difference_members (last_difference explanation.tasks))
+-- the object of a file, with the difference that its tasks end in, if they do
+abbrev pub last_object : Line → Option Pairing → List ℕ
+last_object line difference = json_line_with line (difference_members difference)
 
--- the whole report: the workflow type, if it is not registered, the tasks that are selected, or all, in their order,
--- and the object of the file
+-- the explanation: the workflow type, if it is not registered, and the tasks that are selected, or all, in their order
 unfoldable pub json_explanation : Option Selection → Explanation → List ℕ
 json_explanation selection explanation =
-    unknown_object explanation.unknown
-    ++ (flat_map task_objects (selected_or_all selection explanation.tasks) ++ last_object explanation)
+    unknown_object explanation.unknown ++ flat_map task_objects (selected_or_all selection explanation.tasks)

@@ -1,9 +1,9 @@
 -- Which tasks of an explanation are written.
 use Rattle.std.specs.Prelude.{ℕ, ◌+◌, ◌-◌, List, length, take, drop, nat_lt, count_by, Option, Some, None}
 use Rattle.std.specs.List.{filter}
-use Rattle.wh_view_report.specs.declared.text.Selection.{Selection}
-use Rattle.wh_view_report.specs.declared.text.Selection.TheVariants.{All, Last, Around}
-use Rattle.wh_explain.specs.declared.explanation.ExplainedTask.{ExplainedTask}
+use Rattle.wh_console.specs.declared.selection.Selection.{Selection}
+use Rattle.wh_console.specs.declared.selection.Selection.TheVariants.{All, Last, Around}
+use Rattle.wh_explained_tasks.specs.declared.ExplainedTask.{ExplainedTask}
 use Rattle.wh_explain_report.specs.Sharing.{shares}
 
 -- how many tasks start before the event of a number

@@ -7,11 +7,11 @@ use Rattle.wh_workflow.specs.declared.job.Job.TheVariants.{Start, Signal}
 use Rattle.wh_workflow.specs.ActivationScripts.{Step}
 use Rattle.wh_workflow.specs.Jobs.{job_phrase}
 use Rattle.wh_workflow.specs.Names.{command_phrase}
-use Rattle.wh_explain.specs.declared.explanation.Ending.{Ending}
-use Rattle.wh_explain.specs.declared.explanation.Ending.TheVariants.{Recorded}
-use Rattle.wh_explain.specs.declared.explanation.ExplainedTask.{ExplainedTask}
-use Rattle.wh_explain.specs.declared.explanation.Pairing.{Pairing}
-use Rattle.wh_explain.specs.declared.explanation.Pairing.TheVariants.{Different, CommandMissing}
+use Rattle.wh_explained_tasks.specs.declared.Ending.{Ending}
+use Rattle.wh_explained_tasks.specs.declared.Ending.TheVariants.{Recorded}
+use Rattle.wh_explained_tasks.specs.declared.ExplainedTask.{ExplainedTask}
+use Rattle.wh_explained_tasks.specs.declared.Pairing.{Pairing}
+use Rattle.wh_explained_tasks.specs.declared.Pairing.TheVariants.{Different, CommandMissing}
 use Rattle.wh_phrases.specs.Phrases.{event_phrase}
 
 -- there is another id, and it is the same

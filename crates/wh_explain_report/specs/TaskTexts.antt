@@ -1,8 +1,8 @@
 -- The text of the tasks of an explanation: which are written, and which are folded.
 use Rattle.std.specs.Prelude.{ℕ, ◌+◌, ◌-◌, ◌==◌, List, [], ◌∷◌, ◌++◌, length, take, codes, decimal, Bool, true, false, Option, Some, None, if◌then◌else◌}
 use Rattle.std.specs.List.{flat_map}
-use Rattle.wh_view_report.specs.declared.text.Selection.{Selection}
-use Rattle.wh_explain.specs.declared.explanation.ExplainedTask.{ExplainedTask}
+use Rattle.wh_console.specs.declared.selection.Selection.{Selection}
+use Rattle.wh_explained_tasks.specs.declared.ExplainedTask.{ExplainedTask}
 use Rattle.wh_explain.specs.Differences.{last_of}
 use Rattle.wh_explain_report.specs.Alike.{alike_tasks}
 use Rattle.wh_explain_report.specs.Selections.{left_before, selected, shown_before}

@@ -7,10 +7,10 @@ use Rattle.wh_workflow.specs.ActivationScripts.{Step}
 use Rattle.wh_workflow.specs.Jobs.{job_phrase}
 use Rattle.wh_workflow.specs.Names.{command_phrase}
 use Rattle.wh_tester.specs.Report.{shown}
-use Rattle.wh_explain.specs.declared.explanation.Pairing.{Pairing}
-use Rattle.wh_explain.specs.declared.explanation.Ending.{Ending}
-use Rattle.wh_explain.specs.declared.explanation.Ending.TheVariants.{Refused, Live, Recorded}
-use Rattle.wh_explain.specs.declared.explanation.ExplainedTask.{ExplainedTask}
+use Rattle.wh_explained_tasks.specs.declared.Pairing.{Pairing}
+use Rattle.wh_explained_tasks.specs.declared.Ending.{Ending}
+use Rattle.wh_explained_tasks.specs.declared.Ending.TheVariants.{Refused, Live, Recorded}
+use Rattle.wh_explained_tasks.specs.declared.ExplainedTask.{ExplainedTask}
 use Rattle.wh_explain.specs.Numbers.{left_after, number_of}
 use Rattle.wh_explain.specs.Pairings.{differs}
 use Rattle.wh_phrases.specs.Phrases.{phrase_text}

@@ -8,7 +8,6 @@ ghost use Rattle.wh_explain_report.specs.Json.{gives_object, refuses_object, num
 ghost use Rattle.wh_explain_report.specs.Json.{step_objects, steps_objects, sends_object, pairing_object};
 ghost use Rattle.wh_explain_report.specs.Json.{ending_objects, task_objects, unknown_object, last_object};
 ghost use Rattle.wh_explain_report.specs.Json.{json_explanation};
-ghost use Rattle.wh_explain.specs.Differences.{difference_at, if_differs, last_difference, last_of};
 
 use crate::selection::selected_or_all;
 use std::io::Write;
@@ -18,7 +17,7 @@ use wh_explain::{
     Ending, ExplainedTask, Explanation, Pairing, Step, differs, left_after, number_of,
 };
 use wh_phrases::{CommandJson, DifferenceMembers, JobJson, PairingMembers};
-use wh_tester::{EscapedName, write_open_json_line};
+use wh_tester::{EscapedName, Line, write_open_json_line};
 use wh_view_report::Selection;
 use wh_workflow::{Command, Job};
 
@@ -192,44 +191,18 @@ fn write_tasks<O: Write>(tasks: &[ExplainedTask], writer: &mut O) -> io::Result<
     Ok(())
 }
 
-/// Returns the last pairing, if its command differs from its event.
-fn last_differing(pairings: &[Pairing]) -> Option<&Pairing>
-    ensures { option_map (λ p. p.now) result ≡ if_differs (last_of pairings.now) }
+/// Writes the object of a file in the report of replay, with the members of the difference that its
+/// tasks end in, if they do.
+pub(crate) fn write_last<O: Write>(
+    line: &Line,
+    difference: &Option<Pairing>,
+    writer: &mut O,
+) -> io::Result<()>
+    ensures { let text = last_object line.now difference.now in
+        OnOk result (Appends (O.contents writer.old) (O.contents writer.new) text) }
 {
-    let pairing = pairings.last()?;
-    if differs(pairing) {
-        Some(pairing)
-    } else {
-        None
-    }
-}
-
-/// Returns the difference in which a task ends, if it ends in one.
-fn difference_at(ending: &Ending) -> Option<&Pairing>
-    ensures { option_map (λ p. p.now) result ≡ difference_at ending.now }
-{
-    match ending {
-        Ending::Refused | Ending::Live { .. } => None,
-        Ending::Recorded { pairings } => last_differing(pairings.get()),
-    }
-}
-
-/// Returns the difference in which the last of the tasks ends, if it ends in one.
-fn last_difference(tasks: &[ExplainedTask]) -> Option<&Pairing>
-    ensures { option_map (λ p. p.now) result ≡ last_difference tasks.now }
-{
-    match tasks.last() {
-        Some(task) => difference_at(&task.ending),
-        None => None,
-    }
-}
-
-/// Writes the object of the file.
-fn write_last<O: Write>(explanation: &Explanation, writer: &mut O) -> io::Result<()>
-    ensures { OnOk result (Appends (O.contents writer.old) (O.contents writer.new) (last_object explanation.now)) }
-{
-    write_open_json_line(&explanation.line, writer)?;
-    let difference = DifferenceMembers(last_difference(explanation.tasks.get()));
+    write_open_json_line(line, writer)?;
+    let difference = DifferenceMembers(difference.as_ref());
     write!(writer, "{difference}}}\n")
 }
 
@@ -246,15 +219,13 @@ fn write_last<O: Write>(explanation: &Explanation, writer: &mut O) -> io::Result
 /// - `{"refuses":COMMAND}`, if the last command is invalid;
 /// - `{"sends":COMMAND,"recorded":{"event":N,"type":EVENT},"differs":false}` for a command and the
 ///   event in its place, with `null` for the one that is missing;
-/// - `{"sends":COMMAND}` for each command of a task that is not recorded yet, then `{"live":true}`;
-/// - last the object of the file in the report of replay, as `wh_tester::write_json_line` writes
-///   it, followed by the members of the difference, if there is one.
+/// - `{"sends":COMMAND}` for each command of a task that is not recorded yet, then `{"live":true}`.
 ///
 /// A job, a command or an event is written as its name, followed by its members in Temporal's
 /// words, such as `"activityId"`, `"activityType"`, `"timerId"`, `"time"` and `"seconds"`. After an
 /// error some of the lines may have been written.
 #[tactic(auto, unfolding(crate::specs::Json::json_explanation))]
-pub fn write_json_explanation<O: Write>(
+pub(crate) fn write_json_explanation<O: Write>(
     explanation: &Explanation,
     selection: Option<Selection>,
     writer: &mut O,
@@ -263,6 +234,5 @@ pub fn write_json_explanation<O: Write>(
         (Appends (O.contents writer.old) (O.contents writer.new) (json_explanation selection explanation.now)) }
 {
     write_unknown(&explanation.unknown, writer)?;
-    write_tasks(selected_or_all(selection, explanation.tasks.get()), writer)?;
-    write_last(explanation, writer)
+    write_tasks(selected_or_all(selection, explanation.tasks.get()), writer)
 }

@@ -11,6 +11,4 @@ mod sharing;
 mod showing;
 mod tasks;
 
-pub use explained::{explain_command, explain_file, line_status, write_view_as};
-pub use json_lines::write_json_explanation;
-pub use showing::write_explanation;
+pub use explained::{explain_file, line_status, write_view_as};

@@ -17,7 +17,7 @@ use wh_explain::{
     Ending, ExplainedTask, Explanation, Pairing, Step, differs, left_after, number_of,
 };
 use wh_phrases::{PhraseText, SendsText, SidesText};
-use wh_tester::{Shown, is_good, write_line};
+use wh_tester::{Shown, is_good};
 use wh_view_report::Selection;
 use wh_workflow::{Command, Job};
 
@@ -197,9 +197,9 @@ pub(crate) fn write_tasks<O: Write>(tasks: &[ExplainedTask], writer: &mut O) -> 
     Ok(())
 }
 
-/// Writes an explanation as text: the workflow type, if it is not registered, the lines of the
-/// tasks in their order, and then the line of the file as in the report of replay. Each line ends
-/// with one line feed, and each name is shown as in that report.
+/// Writes an explanation as text: the workflow type, if it is not registered, and the lines of the
+/// tasks in their order. Each line ends with one line feed, and each name is shown as in the report
+/// of replay.
 ///
 /// If tasks are selected, those are written. The tasks around an event are the first that starts at
 /// that event or after it, the two before it and the two after it. If nothing is selected and the
@@ -211,7 +211,7 @@ pub(crate) fn write_tasks<O: Write>(tasks: &[ExplainedTask], writer: &mut O) -> 
 ///
 /// After an error some of the text may have been written.
 #[tactic(auto, unfolding(crate::specs::Explanations::explanation_text))]
-pub fn write_explanation<O: Write>(
+pub(crate) fn write_explanation<O: Write>(
     explanation: &Explanation,
     selection: Option<Selection>,
     writer: &mut O,
@@ -220,7 +220,6 @@ pub fn write_explanation<O: Write>(
         (Appends (O.contents writer.old) (O.contents writer.new) (explanation_text selection explanation.now)) }
 {
     write_unknown(&explanation.unknown, writer)?;
-    let good = is_good(&explanation.line.verdict);
-    write_chosen(selection, good, explanation.tasks.get(), writer)?;
-    write_line(&explanation.line, writer)
+    let good = is_good(&explanation.verdict);
+    write_chosen(selection, good, explanation.tasks.get(), writer)
 }

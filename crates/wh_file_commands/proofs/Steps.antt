@@ -5,7 +5,8 @@ use Rattle.std.specs.Io.KnownBytes.{Keeps}
 use Rattle.wh_console.proofs.Printing.{printed_kept, quiet_twice, written_kept}
 use Rattle.wh_console.specs.Consoles.{ConsoleView, IsQuiet, Printed, Reported}
 use Rattle.wh_console.specs.declared.format.Format.{Format}
-use Rattle.wh_diagnostics.specs.Diagnostics.{detail_lines, record_lines}
+use Rattle.wh_file_faults.specs.DetailTexts.{detail_lines}
+use Rattle.wh_report.specs.Notes.{record_lines}
 use Rattle.wh_diagnostics.specs.KnownTypes.{known_types_text, lacks_code}
 use Rattle.wh_diagnostics.specs.Printing.{HasPrinted}
 use Rattle.wh_diagnostics.specs.declared.failures.Failure.{Failure}
@@ -27,7 +28,7 @@ use Rattle.wh_explain_report.specs.Explained.{IsExplained, status_of, view_as}
 use Rattle.wh_tester.specs.declared.line.Line.{Line}
 use Rattle.wh_view.specs.Views.{IsViewIn}
 use Rattle.wh_view.specs.declared.view.View.{View}
-use Rattle.wh_view_report.specs.declared.text.Selection.{Selection}
+use Rattle.wh_console.specs.declared.selection.Selection.{Selection}
 use Rattle.wh_workflow.specs.Law.{Program}
 
 -- the explanation of a file that was written stays
@@ -36,9 +37,7 @@ explained_kept : {S : Type 0} (program : Program S) (name bytes : List ℕ) (sel
 explained_kept program name bytes selection format a b c line h kept = record {
   explanation = h.explanation;
   view = h.view;
-  tasks = h.tasks;
-  unknown = h.unknown;
-  line = h.line;
+  found = h.found;
   named = h.named;
   verdict = h.verdict;
   viewed = h.viewed;

@@ -38,7 +38,7 @@ unviewed_json file FewSlots is h = absurd h
 unviewed_json file BadInput is h = absurd h
 unviewed_json file (Unreadable dir entry reason) is h = absurd h
 unviewed_json file (NotText name) is h = absurd h
-unviewed_json file (BadPolicies name fault) is h = absurd h
+unviewed_json file (BadPolicies name reason) is h = absurd h
 unviewed_json file Output is h = absurd h
 
 -- another fault is told as it is

@@ -2,13 +2,13 @@
 use Rattle.std.specs.Prelude.{◌≡◌, ℕ, [], ◌∷◌, Option, string_bytes}
 use Rattle.wh_console.specs.Consoles.{ConsoleView, IsQuiet, Reported}
 use Rattle.wh_console.specs.declared.format.Format.{Format}
-use Rattle.wh_diagnostics.specs.Diagnostics.{detail_lines}
+use Rattle.wh_file_faults.specs.DetailTexts.{detail_lines}
 use Rattle.wh_file_faults.specs.Details.{IsUnreadDetail}
 use Rattle.wh_file_faults.specs.Faults.{File}
 use Rattle.wh_file_faults.specs.declared.detail.FaultDetail.{FaultDetail}
 use Rattle.wh_explain_report.specs.Explained.{IsExplained, status_of}
 use Rattle.wh_tester.specs.declared.line.Line.{Line}
-use Rattle.wh_view_report.specs.declared.text.Selection.{Selection}
+use Rattle.wh_console.specs.declared.selection.Selection.{Selection}
 use Rattle.wh_workflow.specs.Law.{Program}
 
 -- a file was explained, and then where it is no JSON was reported if that is the verdict of the line that its

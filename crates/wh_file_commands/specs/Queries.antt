@@ -2,7 +2,7 @@
 use Rattle.std.specs.Prelude.{◌≡◌, ◌⊎◌, ℕ, List, IsSome, None, Option, Some}
 use Rattle.wh_console.specs.Consoles.{ConsoleView, Printed, Reported}
 use Rattle.wh_console.specs.declared.format.Format.{Format}
-use Rattle.wh_diagnostics.specs.Diagnostics.{record_lines}
+use Rattle.wh_report.specs.Notes.{record_lines}
 use Rattle.wh_diagnostics.specs.Failures.{IsWriteFailure}
 use Rattle.wh_diagnostics.specs.Files.{IsNotCarriedOut}
 use Rattle.wh_diagnostics.specs.KnownTypes.{known_types_text, lacks_code}

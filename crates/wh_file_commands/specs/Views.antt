@@ -7,7 +7,7 @@ use Rattle.wh_file_faults.specs.Faults.{File}
 use Rattle.wh_explain_report.specs.Explained.{view_as}
 use Rattle.wh_view.specs.Views.{IsViewIn}
 use Rattle.wh_view.specs.declared.view.View.{View as FileView}
-use Rattle.wh_view_report.specs.declared.text.Selection.{Selection}
+use Rattle.wh_console.specs.declared.selection.Selection.{Selection}
 
 -- the view of a file was written, and the status is 0
 pub record HasViewed (selection : Selection) (format : Format) (file : File) (old new : ConsoleView) (status : ℕ)

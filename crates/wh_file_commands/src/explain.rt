@@ -2,10 +2,10 @@
 
 ghost use Rattle.std.specs.Prelude.{◌≡◌, IfErr, IfOk, string_bytes};
 ghost use Rattle.wh_console.specs.Consoles.{IsQuiet, Reported};
-ghost use Rattle.wh_diagnostics.specs.Diagnostics.{detail_lines};
 ghost use Rattle.wh_diagnostics.specs.Failures.{IsWriteFailure};
 ghost use Rattle.wh_diagnostics.specs.Files.{HasCarriedOut, IsNotCarriedOut};
 ghost use Rattle.wh_file_commands.specs.Explanations.{HasExplained};
+ghost use Rattle.wh_file_faults.specs.DetailTexts.{detail_lines};
 ghost use Rattle.wh_explain_report.specs.Explained.{IsExplained};
 
 use std::alloc::Global;

@@ -14,9 +14,7 @@ use std::alloc::Global;
 use std::io;
 use std::io::Write;
 use wh_console::{Console, Format, Outlet};
-use wh_diagnostics::{
-    Diagnostic, Failure, InputReader, KnownTypes, file_at, flush_answer, lacks_code,
-};
+use wh_diagnostics::{Failure, InputReader, KnownTypes, file_at, flush_answer, lacks_code};
 use wh_events::Text;
 use wh_file_faults::CommandFault;
 use wh_query_report::{Queried, query_command, query_of};
@@ -67,7 +65,7 @@ fn query_file<W: Queryable, O: Write, E: Write>(
     let Queried { own, given } = queried;
     drop(given);
     let lacking = lacks_code(&own.detail);
-    console.report(Diagnostic::Queried { own });
+    console.report(own);
     console.report(KnownTypes { types, lacking });
     Ok(status)
 }

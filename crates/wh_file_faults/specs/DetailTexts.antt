@@ -46,3 +46,13 @@ members_of (Names at workflow_id) = text_member (codes "workflowId") (shown work
 abbrev pub detail_members : Option FaultDetail → List (List ℕ)
 detail_members None = []
 detail_members (Some detail) = members_of detail
+
+-- `<name>: <file>: <the detail of its fault>`, with the name by which a program was called
+abbrev pub detail_line : (file : List ℕ) → FaultDetail → (name : List ℕ) → List ℕ
+detail_line file detail name =
+    shown name ++ (codes ": " ++ (shown file ++ (codes ": " ++ (detail_text detail ++ codes "\n"))))
+
+-- that line, if there is a detail
+abbrev pub detail_lines : (file : List ℕ) → Option FaultDetail → (name : List ℕ) → List ℕ
+detail_lines file None name = []
+detail_lines file (Some detail) name = detail_line file detail name

@@ -6,11 +6,13 @@
 mod command_fault;
 mod detail;
 mod fields;
+mod lines;
 mod places;
 mod position;
 mod texts;
 
 pub use command_fault::CommandFault;
 pub use detail::{FaultDetail, detail_of, file_detail, json_detail, unread_detail};
+pub use lines::write_detail;
 pub use position::{EncodingMark, Position};
 pub use texts::FaultDetailMembers;

@@ -19,7 +19,7 @@ use Rattle.wh_activation.specs.Cutting.{jobs_at}
 use Rattle.wh_replay.specs.Replays.{workflow_of}
 use Rattle.wh_replay.specs.Tracking.{in_place}
 use Rattle.wh_replay.specs.Views.{context_after}
-use Rattle.wh_explain.specs.declared.explanation.ExplainedTask.{ExplainedTask}
+use Rattle.wh_explained_tasks.specs.declared.ExplainedTask.{ExplainedTask}
 use Rattle.wh_explain.specs.Explaining.{IsTask, AreTasks, all, stopped, passed, AreTasksIf, AreTasksPlaced, AreTasksIn}
 use Rattle.wh_rows.specs.Rules.{BeginsNowhere, has_state, rows_fault, table_fault}
 use Rattle.wh_rows.specs.Tables.{Row}

@@ -8,7 +8,7 @@ use Rattle.wh_events.specs.declared.place.PlaceFault.{PlaceFault}
 use Rattle.wh_events.specs.Places.{history_fault}
 use Rattle.wh_explain.specs.Explaining.{AreTasksIf, AreTasksIn, AreTasksOf, AreTasksPlaced}
 use Rattle.wh_explain.specs.Reading.{IsReadOf}
-use Rattle.wh_explain.specs.declared.explanation.ExplainedTask.{ExplainedTask}
+use Rattle.wh_explained_tasks.specs.declared.ExplainedTask.{ExplainedTask}
 use Rattle.wh_json.specs.Events.{history}
 use Rattle.wh_json.specs.Outcome.{Gives}
 use Rattle.wh_json.specs.declared.fault.ReadFault.{ReadFault}

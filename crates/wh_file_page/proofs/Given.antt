@@ -1,7 +1,7 @@
 -- What the starts among the jobs of a history in place bring.
 use Rattle.std.proofs.Common.{◌≡◌, ℕ, zero, suc, ◌-◌, true, not, List, [], ◌∷◌, ◌++◌, take, drop, Option, Some, None, refl, ap, sym, subst, arith, slice_get}
 use Rattle.std.specs.Prelude.{if◌then◌else◌}
-use Rattle.std.proofs.lemmas.Bool.{and_parts, and_from}
+use Rattle.std.proofs.lemmas.Bool.{and_parts}
 use Rattle.wh_events.specs.declared.event.Event.{Event}
 use Rattle.wh_events.specs.declared.event.Payload.{Payload}
 use Rattle.wh_events.specs.declared.kind.EventKind.{EventKind}
@@ -16,7 +16,9 @@ use Rattle.wh_workflow.specs.declared.job.Job.TheVariants as jobs
 use Rattle.wh_workflow.specs.Jobs.{start_job, signal_job, outside_job, jobs_by, jobs_of}
 use Rattle.wh_workflow.specs.ActivationScripts.{Step, is_version, own_jobs}
 use Rattle.wh_activation.specs.Cutting.{jobs_in, jobs_at}
-use Rattle.wh_table.specs.Laws.{is_start as starts_run, none_starts}
+use Rattle.wh_rows.specs.Rows.{is_start as starts_run}
+use Rattle.wh_rows.specs.Courses.{goes_on}
+use Rattle.wh_table.proofs.Starts.{signals_go, outside_go}
 use Rattle.wh_file_page.specs.Brought.{input_in, input_of}
 
 -- a job that starts a run brings this input
@@ -46,30 +48,11 @@ has_none : (input : List Payload) (job : Job) → not (starts_run job) ≡ true 
 has_none input (jobs.Start kind given) none = cc
 has_none input _ none = tt
 
-all_none : (input : List Payload) (list : List Job) → none_starts list ≡ true → AllHave input list
+all_none : (input : List Payload) (list : List Job) → goes_on list ≡ true → AllHave input list
 all_none input [] none = tt
 all_none input (job ∷ later) none =
-    let parts : (not (starts_run job) ≡ true) × (none_starts later ≡ true) = and_parts (not (starts_run job)) (none_starts later) none in
+    let parts : (not (starts_run job) ≡ true) × (goes_on later ≡ true) = and_parts (not (starts_run job)) (goes_on later) none in
     (has_none input job parts.0, all_none input later parts.1)
-
-none_append : (xs ys : List Job) → none_starts xs ≡ true → none_starts ys ≡ true → none_starts (xs ++ ys) ≡ true
-none_append [] ys first second = second
-none_append (x ∷ xs) ys first second =
-    let parts : (not (starts_run x) ≡ true) × (none_starts xs ≡ true) = and_parts (not (starts_run x)) (none_starts xs) first in
-    and_from (not (starts_run x)) (none_starts (xs ++ ys)) parts.0 (none_append xs ys parts.1 second)
-
-none_by : (job : EventKind → List Job) → ((kind : EventKind) → none_starts (job kind) ≡ true) → (events : List Event)
-    → none_starts (jobs_by job events) ≡ true
-none_by job one [] = refl
-none_by job one (event ∷ rest) = none_append (job event.body) (jobs_by job rest) (one event.body) (none_by job one rest)
-
-signal_none : (kind : EventKind) → none_starts (signal_job kind) ≡ true
-signal_none (kinds.WorkflowExecutionSignaled name input) = refl
-signal_none _ = refl
-
-outside_none : (events : List Event) (kind : EventKind) → none_starts (outside_job events kind) ≡ true
-outside_none events (kinds.ActivityTaskFailed number) = refl
-outside_none events _ = refl
 
 start_has : (input : List Payload) (kind : EventKind) → (is_start_class (class_of kind) ≡ true → input_in kind ≡ input)
     → AllHave input (start_job kind)
@@ -124,8 +107,8 @@ cut_has input seen between cut starts = (
   tt,
   all_append input (jobs_by start_job between ++ jobs_by signal_job between) (jobs_by (outside_job seen) between)
       (all_append input (jobs_by start_job between) (jobs_by signal_job between) starts
-      (all_none input (jobs_by signal_job between) (none_by signal_job signal_none between)))
-      (all_none input (jobs_by (outside_job seen) between) (none_by (outside_job seen) (outside_none seen) between)),
+      (all_none input (jobs_by signal_job between) (signals_go between)))
+      (all_none input (jobs_by (outside_job seen) between) (outside_go seen between)),
 )
 
 -- each job of a task that starts a run brings the input of the history's first event

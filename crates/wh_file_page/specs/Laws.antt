@@ -4,9 +4,9 @@ use Rattle.std.specs.Option.{option_map}
 use Rattle.wh_html.specs.Html.{bytes}
 use Rattle.wh_html.specs.Tags.{tags}
 use Rattle.wh_page.specs.Pages.{page_html}
-use Rattle.wh_timeline.specs.declared.axis.Stop.{Stop}
-use Rattle.wh_timeline.specs.declared.page.Page.{Page}
-use Rattle.wh_timeline.specs.Without.{without_texts}
+use Rattle.wh_html.specs.declared.axis.Stop.{Stop}
+use Rattle.wh_html.specs.declared.page.Page.{Page}
+use Rattle.wh_html.specs.Without.{without_texts}
 use Rattle.wh_file_page.specs.declared.run_table.RunTable.{RunTable}
 use Rattle.wh_file_page.specs.RunTables.{table_html, without_table_words}
 

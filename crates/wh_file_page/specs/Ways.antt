@@ -4,7 +4,7 @@ use Rattle.wh_json.specs.Events.{history}
 use Rattle.wh_workflow.specs.declared.job.Job.{Job}
 use Rattle.wh_workflow.specs.declared.job.Job.TheVariants as jobs
 use Rattle.wh_workflow.specs.ActivationScripts.{Step, state_after}
-use Rattle.wh_explain.specs.declared.explanation.ExplainedTask.{ExplainedTask}
+use Rattle.wh_explained_tasks.specs.declared.ExplainedTask.{ExplainedTask}
 use Rattle.wh_explain.specs.Explaining.{AreTasksIn}
 use Rattle.wh_rows.specs.declared.row.RowsState.{RowsState}
 use Rattle.wh_rows.specs.Tables.{Row, Definition}

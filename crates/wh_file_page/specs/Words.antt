@@ -1,8 +1,8 @@
 -- What is said of a verdict and of a difference, in words.
 use Rattle.std.specs.Prelude.{ℕ, List, ◌++◌, codes, Option, Some, None}
-use Rattle.wh_explain.specs.declared.explanation.Pairing.{Pairing}
-use Rattle.wh_explain.specs.declared.explanation.Pairing.TheVariants.{Alike, Different, CommandMissing, CommandExtra}
-use Rattle.wh_explain.specs.declared.explanation.RecordedEvent.{RecordedEvent}
+use Rattle.wh_explained_tasks.specs.declared.Pairing.{Pairing}
+use Rattle.wh_explained_tasks.specs.declared.Pairing.TheVariants.{Alike, Different, CommandMissing, CommandExtra}
+use Rattle.wh_explained_tasks.specs.declared.RecordedEvent.{RecordedEvent}
 use Rattle.wh_phrases.specs.Phrases.{event_phrase, phrase_text}
 use Rattle.wh_file_faults.specs.declared.detail.FaultDetail.{FaultDetail}
 use Rattle.wh_file_faults.specs.DetailTexts.{detail_text}
@@ -11,7 +11,7 @@ use Rattle.wh_replay.specs.declared.fault.Fault.TheVariants as faults
 use Rattle.wh_tester.specs.declared.line.Verdict.{Verdict}
 use Rattle.wh_tester.specs.declared.line.Verdict.TheVariants as verdicts
 use Rattle.wh_tester.specs.Report.{event_of}
-use Rattle.wh_timeline.specs.declared.page.Difference.{Difference as Sides}
+use Rattle.wh_html.specs.declared.page.Difference.{Difference as Sides}
 use Rattle.wh_workflow.specs.declared.command.Command.{Command}
 use Rattle.wh_workflow.specs.declared.fault.Mismatch.{Mismatch}
 use Rattle.wh_workflow.specs.declared.fault.Mismatch.TheVariants as mismatches

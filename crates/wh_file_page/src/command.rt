@@ -2,13 +2,13 @@
 
 ghost use Rattle.std.specs.Prelude.{◌≡◌, ◌≢◌, Bool, Err, IfErr, IfOk, IsOk, OnOk};
 ghost use Rattle.std.specs.Io.KnownBytes.{Appends};
-ghost use Rattle.wh_file_page.specs.Pages.{IsPageOf, IsPaged};
+ghost use Rattle.wh_file_page.specs.Pages.{title_of, IsPageOf, IsPaged};
 ghost use Rattle.wh_file_page.specs.Readings.{IsReadAs};
 ghost use Rattle.wh_file_page.specs.RunTables.{IsTableOf, table_html};
 ghost use Rattle.wh_html.specs.Html.{bytes as bytes_of};
 ghost use Rattle.wh_json.specs.declared.fault.ReadFault.{ReadFault};
 ghost use Rattle.wh_page.specs.Pages.{page_html};
-ghost use Rattle.wh_timeline.specs.Views.{IsAxisOf};
+ghost use Rattle.wh_html.specs.Views.{IsAxisOf};
 ghost use Rattle.wh_view.specs.Views.{members_of};
 
 use crate::fault::PageFault;
@@ -20,6 +20,8 @@ use std::io;
 use std::io::Write;
 use wh_page::{Axis, Page, axis_of, write_body, write_end};
 use wh_run_page::page_of;
+use wh_view::View;
+use wh_view_report::workflow_type;
 use wh_workflow::Workflow;
 
 /// A page with its axis and the table of its run, and the status of its report.
@@ -29,6 +31,19 @@ struct Prepared {
     axis: Axis,
     table: Option<RunTable>,
     status: u8,
+}
+
+/// The title of the page of a file: its name; of standard input, whose name is `-`, the workflow
+/// type, if it has one.
+fn title_of<'v>(name: &'v str, view: &'v View) -> &'v str
+    ensures { result.now ≡ title_of name.now view.now }
+{
+    let type_name = workflow_type(view.events.get());
+    if name != "-" || type_name.is_empty() {
+        name
+    } else {
+        type_name
+    }
 }
 
 /// The page of a file that was read.
@@ -47,7 +62,7 @@ fn page_with<W: Workflow>(
 {
     let FileReading { view, read } = file;
     let table = table_as(alloc, &read)?;
-    let own = said_as::<W>(alloc, name, bytes, read)?;
+    let own = said_as::<W>(alloc, title_of(name, &view), bytes, read)?;
     let page = page_of(alloc, &view, own.said)?;
     let axis = axis_of(alloc, &page)?;
     Ok(Prepared {
@@ -71,7 +86,8 @@ fn write_page<O: Write>(own: &Prepared, writer: &mut O) -> io::Result<()>
 }
 
 /// Writes the page of a history file, given by name and bytes: one HTML file, which needs no script
-/// and fetches nothing. Whatever the history holds stands in it as text.
+/// and fetches nothing. Whatever the history holds stands in it as text. The title is the name, or
+/// the workflow type if the name is `-` and there is a type.
 ///
 /// It shows what the bytes hold, as `wh_view::view_of` views it, also where the reader of histories
 /// refuses an event. The file is parsed once, and once more only if an event lacks a field or is not

@@ -161,9 +161,8 @@ fn follow_events(alloc: Global, events: &[Event]) -> Result<Option<Way>, OutOfMe
         return Ok(None);
     }
     let copy = events.to_vec(alloc)?;
-    let (finding, tasks) = explain_read::<TableWorkflow>(alloc, Ok(copy))?;
-    drop(finding);
-    way_over(alloc, tasks.as_slice())
+    let explanation = explain_read::<TableWorkflow>(alloc, Ok(copy))?;
+    way_over(alloc, explanation.tasks.get())
 }
 
 /// Follows the run of a history file, if there was memory to read it.

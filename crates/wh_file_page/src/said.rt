@@ -8,7 +8,7 @@ ghost use Rattle.wh_file_page.specs.Readings.{IsReadAs};
 use crate::words::{copy_text, difference_of, note_of, verdict_place, verdict_words};
 use std::alloc::Global;
 use wh_events::{Event, OutOfMemory, Text};
-use wh_explain::{Finding, explain_read};
+use wh_explain::{Explanation, explain_read};
 use wh_file_faults::{FaultDetail, detail_of};
 use wh_json::ReadFault;
 use wh_run_page::Said;
@@ -34,39 +34,44 @@ fn status_of(verdict: &Verdict) -> u8
 fn said_of(
     alloc: Global,
     name: &str,
-    finding: &Finding,
+    explanation: &Explanation,
     detail: &Option<FaultDetail>,
 ) -> Result<Said, OutOfMemory>
-    ensures { IfOk result (λ said. said ≡ pages.said_of name.now finding.now detail.now) }
+    ensures { IfOk result (λ said. said ≡ pages.said_of name.now explanation.now detail.now) }
 {
     let title = copy_text(alloc, name)?;
-    let verdict = verdict_words(alloc, &finding.verdict)?;
-    let difference = difference_of(alloc, &finding.difference)?;
-    let note = note_of(alloc, &finding.unknown, detail)?;
+    let verdict = verdict_words(alloc, &explanation.verdict)?;
+    let difference = difference_of(alloc, &explanation.difference)?;
+    let note = note_of(alloc, &explanation.unknown, detail)?;
     Ok(Said {
         title,
         verdict,
-        good: Some(is_good(&finding.verdict)),
-        place: verdict_place(&finding.verdict),
+        good: Some(is_good(&explanation.verdict)),
+        place: verdict_place(&explanation.verdict),
         difference,
         note,
     })
 }
 
 /// What is said of a file with what its replay found, and the status of its report.
-fn said_by(alloc: Global, name: &str, bytes: &[u8], finding: Finding) -> Result<Judged, OutOfMemory>
-    ensures said { IfOk result (λ own. own.said ≡ pages.said_in name.now bytes.now finding) }
-    ensures ends { IfOk result (λ own. own.status ≡ pages.status_of finding.verdict) }
-    ensures known { IfOk result (λ _. finding.verdict ≢ Verdict.OutOfMemory) }
+fn said_by(
+    alloc: Global,
+    name: &str,
+    bytes: &[u8],
+    explanation: &Explanation,
+) -> Result<Judged, OutOfMemory>
+    ensures said { IfOk result (λ own. own.said ≡ pages.said_in name.now bytes.now explanation.now) }
+    ensures ends { IfOk result (λ own. own.status ≡ pages.status_of explanation.now.verdict) }
+    ensures known { IfOk result (λ _. explanation.now.verdict ≢ Verdict.OutOfMemory) }
 {
-    if matches!(&finding.verdict, Verdict::OutOfMemory) {
+    if matches!(&explanation.verdict, Verdict::OutOfMemory) {
         return Err(OutOfMemory);
     }
-    let detail = detail_of(alloc, &finding.verdict, bytes)?;
-    let said = said_of(alloc, name, &finding, &detail)?;
+    let detail = detail_of(alloc, &explanation.verdict, bytes)?;
+    let said = said_of(alloc, name, explanation, &detail)?;
     Ok(Judged {
         said,
-        status: status_of(&finding.verdict),
+        status: status_of(&explanation.verdict),
     })
 }
 
@@ -80,9 +85,8 @@ fn judge_replayed<W: Workflow>(
     ensures { IsReadOf bytes.now read → IfOk result (λ own.
         pages.IsReplayed W.program name.now bytes.now own.said own.status) }
 {
-    let (finding, tasks) = explain_read::<W>(alloc, read)?;
-    drop(tasks);
-    said_by(alloc, name, bytes, finding)
+    let explanation = explain_read::<W>(alloc, read)?;
+    said_by(alloc, name, bytes, &explanation)
 }
 
 /// What is said of a file that is not replayed.

@@ -8,11 +8,11 @@ use std::alloc::Global;
 use wh_events::{OutOfMemory, Text};
 use wh_explain::{Pairing, RecordedEvent};
 use wh_file_faults::FaultDetail;
+use wh_html::Difference;
 use wh_json::ReadFault;
 use wh_phrases::{PhraseText, event_phrase};
 use wh_replay::{Checked, Fault};
 use wh_tester::{FaultText, ReplayFaultText, Verdict};
-use wh_timeline::Difference;
 use wh_workflow::{Command, Mismatch};
 
 /// A text of its own.

@@ -1,5 +1,5 @@
 -- The host as a machine: its state, its calls with their results, and the step of each call.
-use Rattle.std.specs.Prelude.{◌||◌, cond, map, ◌≡◌, ℕ, ◌+◌, ◌-◌, ◌<◌, ◌≤◌, Bool, true, false, List, [], ◌∷◌, length, replicate, Option, Some, None, is_some, Result, Ok, MatchResult, slice_get, slice_set, option_map}
+use Rattle.std.specs.Prelude.{◌||◌, cond, map, ◌≡◌, ℕ, ◌+◌, ◌-◌, ◌≤◌, Bool, true, false, List, [], ◌∷◌, length, replicate, Option, Some, None, is_some, Result, Ok, MatchResult, slice_get, slice_set, option_map}
 use Rattle.std.specs.declared.sync.ledger.Blank.{Blank}
 use Rattle.std.specs.Map.{lookup, lookup_entry, remove_entry}
 use Rattle.wh_slots.specs.declared.SlotKind.{SlotKind}
@@ -19,7 +19,8 @@ use Rattle.wh_replay.specs.Runs.{Held as HeldRun, history_of, IsReplayed}
 use Rattle.wh_cache.specs.Cache.{CacheView, cache_view, held_of, held_by, IsSound, Puts, PutReply, put_reply_of}
 use Rattle.wh_ledger.specs.declared.Shares.{Shares}
 use Rattle.wh_ledger.specs.Shares.{no_shares}
-use Rattle.wh_host.specs.declared.config.Config.{Config}
+use Rattle.wh_slots.specs.Sizes.{IsConfig}
+use Rattle.wh_slots.specs.declared.sizes.Config.{Config}
 use Rattle.wh_host.specs.declared.reply.Totals.{Totals}
 use Rattle.wh_host.specs.declared.state.Mark.{Mark}
 use Rattle.wh_host.specs.declared.reply.Counts.{Counts}
@@ -57,14 +58,6 @@ opening workflow_slots activity_slots capacity bound =
       cache = cache_view [] capacity bound;
       books = no_shares;
     }
-
--- each size of a host is within its range
-pub record IsConfig (config : Config) : Type 0 where
-  pub workflow : (0 < config.workflow_slots) × (config.workflow_slots ≤ 1000)
-  pub activity : (0 < config.activity_slots) × (config.activity_slots ≤ 1000)
-  pub cache : config.cache ≤ 10000
-  pub cache_events : config.cache_events ≤ 512000000
-  pub seats : (0 < config.seats) × (config.seats ≤ 64)
 
 -- a new ledger of this name with as many parts, one for each seat of a host of these sizes
 abbrev pub IsBlankOf : Config → Blank → ℕ → ℕ → Type 0

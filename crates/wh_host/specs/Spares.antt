@@ -1,6 +1,6 @@
 -- A spare seat beside those of the workers.
 use Rattle.std.specs.Prelude.{◌+◌, ◌&&◌, Bool, nat_lt, List, [], ◌∷◌, Option, Some, None, if◌then◌else◌}
-use Rattle.wh_host.specs.declared.config.Config.{Config}
+use Rattle.wh_slots.specs.declared.sizes.Config.{Config}
 
 -- the sizes of a host with one seat more, if it is wanted, there is a seat, and a host may have one more
 abbrev pub with_spare : Config → Bool → Config

@@ -3,15 +3,17 @@ ghost use Rattle.std.specs.Prelude.{◌≡◌, ◌<◌, ◌+◌, ◌↔◌, IfOk
 ghost use Rattle.std.specs.Prelude.{replicate};
 ghost use Rattle.std.specs.Sync.Mutex.{mutex_guard_value};
 ghost use Rattle.wh_ledger.specs.Shares.{no_shares, sums_of};
-ghost use Rattle.wh_host.specs.Machine.{IsConfig, IsBlankOf, IsHost, totals_of};
+ghost use Rattle.wh_slots.specs.Sizes.{IsConfig};
+ghost use Rattle.wh_host.specs.Machine.{IsBlankOf, IsHost, totals_of};
 
-use crate::config::{Config, OpenFault};
+use crate::open_fault::OpenFault;
 use crate::reply::Totals;
 use crate::state::HostState;
 use std::alloc::Global;
 use std::sync::ledger::{Blank, Ledger};
 use std::sync::{Mutex, MutexGuard, Wait};
 use wh_ledger::{Seat, SeatsMissing};
+use wh_slots::Config;
 use wh_workflow::Workflow;
 
 /// A worker host that threads share: one lock around its state. Each thread has a seat of its own,

@@ -3,18 +3,19 @@
 #![tactic(auto)]
 
 mod companion;
-mod config;
 mod end_signal;
 mod host;
 pub mod laws;
+mod open_fault;
 mod reply;
 mod spare;
 mod state;
 
 pub use companion::{Companion, accompany};
-pub use config::{Config, MOST_SEATS, OpenFault};
 pub use end_signal::EndSignal;
 pub use host::Host;
+pub use open_fault::OpenFault;
 pub use reply::{Counts, Evict, Given, Outcome, Totals};
 pub use spare::{put_spare, take_spare, with_spare};
 pub use state::{HostState, Mark};
+pub use wh_slots::{Config, MOST_SEATS};

@@ -1,12 +1,12 @@
 //! A spare seat beside those of the workers.
 
 ghost use Rattle.std.specs.Prelude.{◌≡◌, ◌≤◌, ◌<◌, ◌+◌, ◌++◌, ◌↔◌, length, vec_capacity, vec_len};
-ghost use Rattle.wh_host.specs.Machine.{IsConfig};
+ghost use Rattle.wh_slots.specs.Sizes.{IsConfig};
 ghost use Rattle.wh_host.specs.Spares.{spare_seats, with_spare};
 
-use crate::{Config, MOST_SEATS};
 use std::sync::ledger::Ledger;
 use wh_ledger::Seat;
+use wh_slots::{Config, MOST_SEATS};
 
 /// Returns the sizes of a host with one seat more, if `is_wanted` is set, there is a seat, and a
 /// host may have one more. Else returns the sizes as they are.

@@ -11,13 +11,14 @@ ghost use Rattle.wh_ledger.specs.Shares.{no_shares, sums_of, IsWithin};
 ghost use Rattle.wh_slots.specs.Table.{table};
 ghost use Rattle.wh_slots.specs.declared.Place.TheVariants.{Free};
 ghost use Rattle.wh_slots.specs.declared.SlotKind.{SlotKind};
-ghost use Rattle.wh_host.specs.Machine.{IsConfig, IsBlankOf, IsHost, in_hand, totals_of, opening_of, step};
+ghost use Rattle.wh_slots.specs.Sizes.{IsConfig};
+ghost use Rattle.wh_host.specs.Machine.{IsBlankOf, IsHost, in_hand, totals_of, opening_of, step};
 ghost use Rattle.wh_host.specs.Machine.{with_taken, with_outcome, books_of, give_reply_of, evicted_for};
 ghost use Rattle.wh_host.specs.Machine.{has_key, has_mark, is_marked_at, Reserve, Release};
 ghost use Rattle.wh_host.specs.Machine.{UseWorkflow, UseActivity, GiveRun, EvictRun, Finish, Drain};
 ghost use Rattle.wh_host.specs.Machine.{ReadCounts};
 
-use crate::config::{Config, OpenFault};
+use crate::open_fault::OpenFault;
 use crate::reply::{Counts, Evict, Given, Outcome, Totals};
 use std::alloc::Global;
 use std::marker::Model;
@@ -27,7 +28,7 @@ use wh_events::{OutOfMemory, RunKey};
 use wh_ledger::{Books, Seat, SeatsMissing};
 use wh_replay::{ReplayedHistory, Run};
 use wh_slots::{
-    Held, NotHeld, NotReserved, Permit, ReserveFault, SlotKind, Slots, TaskName, UseFault,
+    Config, Held, NotHeld, NotReserved, Permit, ReserveFault, SlotKind, Slots, TaskName, UseFault,
 };
 use wh_workflow::Workflow;
 

@@ -3,3 +3,10 @@ pub mod Times
 pub mod Html
 pub mod Tags
 pub mod Laws
+pub mod Words
+pub mod Views
+pub mod Axes
+pub mod Lanes
+pub mod Pictures
+pub mod Without
+pub mod PictureLaws

@@ -1,10 +1,24 @@
-//! Texts and times within HTML. A text within HTML is read as text, whatever it holds: `laws` says
-//! what that means. `specs/Html.antt` defines HTML for contracts: a template with holes.
+//! Texts and times within HTML, what a page of a run shows, and its picture: time from left to
+//! right, and a row for each thing that the run opened. A text within HTML is read as text,
+//! whatever it holds: `laws` says what that means, and what holds of every axis. `specs/Html.antt`
+//! defines HTML for contracts: a template with holes.
 #![tactic(auto)]
 
+mod axis;
 mod escaping;
+mod lanes;
 pub mod laws;
+mod page;
+mod picture;
 mod times;
+mod view;
 
+pub use axis::{Axis, Gap, Stop, axis_of};
 pub use escaping::Escaped;
+pub use lanes::{Classes, time_between};
+pub use page::{
+    Difference, Fact, Kind, Lane, Moment, Page, RowPart, Side, Task, TaskLine, ThingOutcome,
+};
+pub use picture::Picture;
 pub use times::{LAST_TIME, Stamp, TimeSpan};
+pub use view::{first_items, shown_tasks};

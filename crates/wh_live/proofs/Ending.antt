@@ -11,11 +11,11 @@ use Rattle.wh_client.specs.declared.asking.AskFault.TheVariants as asked
 use Rattle.wh_commands.specs.declared.names.WorkerNames.{WorkerNames}
 use Rattle.wh_client.specs.declared.codes.PollEnd.{PollEnd}
 use Rattle.wh_client.specs.declared.codes.PollEnd.TheVariants.{Closed, Later, Never}
-use Rattle.wh_live.specs.declared.tasks.Brought.{Brought}
-use Rattle.wh_live.specs.declared.tasks.Brought.TheVariants as brought
+use Rattle.wh_notes.specs.declared.results.PollResult.{PollResult}
+use Rattle.wh_notes.specs.declared.results.PollResult.TheVariants as results
 use Rattle.wh_live.specs.declared.tasks.OpenTask.{OpenTask}
 use Rattle.wh_live.specs.Private.Opening.{IsActivityFault, IsClosedBy, IsOpened, IsWorkflowFault}
-use Rattle.wh_live.specs.Private.Polls.{EndsPoll, IsOverIfEnded, MayEnd, Reports, end_of, ended_after, ended_by}
+use Rattle.wh_notes.specs.Polls.{EndsPoll, IsOverIfEnded, MayEnd, Reports, end_of, ended_after, ended_by}
 use Rattle.wh_messages.specs.Requests.{poll_activity, poll_workflow}
 use Rattle.wh_tasks.specs.declared.source.Polled.{Polled}
 use Rattle.wh_tasks.specs.declared.source.Polled.TheVariants as polled
@@ -43,7 +43,7 @@ never_closed fails fault is = subst (MayEnd fails) (sym is) (λ e. cc)
 -- the same for a poll of a queue
 pub workflow_over : {A : Type 0} (gives : Gives) (fails : Fails) (names : WorkerNames) (sticky : Bool) (taken : Result A AskFault)
     → IfErr taken (IsWorkflowFault gives fails names sticky) → IfErr taken HasItsStatus → IfErr taken (MayEnd fails)
-workflow_over gives fails names sticky (Ok brought) is has = tt
+workflow_over gives fails names sticky (Ok poll) is has = tt
 workflow_over gives fails names sticky (Err fault) (inl is) has =
     over_by fails (codes "PollWorkflowTaskQueue") (poll_workflow names sticky) fault (names, inl (sticky, refl, refl)) is has
 workflow_over gives fails names sticky (Err fault) (inr (inl is)) has = never_unreadable fails fault is.0
@@ -52,7 +52,7 @@ workflow_over gives fails names sticky (Err fault) (inr (inr is)) has = never_cl
 -- and for one for activity tasks
 pub activity_over : {A : Type 0} (gives : Gives) (fails : Fails) (names : WorkerNames) (taken : Result A AskFault)
     → IfErr taken (IsActivityFault gives fails names) → IfErr taken HasItsStatus → IfErr taken (MayEnd fails)
-activity_over gives fails names (Ok brought) is has = tt
+activity_over gives fails names (Ok poll) is has = tt
 activity_over gives fails names (Err fault) (inl is) has =
     over_by fails (codes "PollActivityTaskQueue") (poll_activity names) fault (names, inr (refl, refl)) is has
 activity_over gives fails names (Err fault) (inr is) has = never_unreadable fails fault is.0
@@ -64,9 +64,9 @@ ends_over fails Later old new may is was = λ ended. was (sym is ∙ ended)
 ends_over fails Never old new may is was = λ _. may refl
 
 -- a poll ends its source only if it has shown that no later one can succeed
-pub over_if_ended : {A : Type 0} (fails : Fails) (taken : Result (Brought A) AskFault) (old new : Bool) → IfErr taken (MayEnd fails)
+pub over_if_ended : {A : Type 0} (fails : Fails) (taken : Result (PollResult A) AskFault) (old new : Bool) → IfErr taken (MayEnd fails)
     → new ≡ ended_after taken old → IsOverIfEnded fails old → IsOverIfEnded fails new
-over_if_ended fails (Ok brought) old new may is was = λ ended. was (sym is ∙ ended)
+over_if_ended fails (Ok poll) old new may is was = λ ended. was (sym is ∙ ended)
 over_if_ended fails (Err fault) old new may is was = ends_over fails (end_of fault) old new may is was
 
 closed_end : {A : Type 0} (came : AskFault → Type 0) (fault : AskFault) (end : PollEnd) (given : Result (Polled A) SourceFault)
@@ -75,12 +75,12 @@ closed_end came fault Closed given ends is has reports closed = record { fault =
 closed_end came fault Later given ends is has reports closed = cc
 closed_end came fault Never given ends is has reports closed = absurd (true≢false (sym (subst IsErr closed reports)))
 
-closed_poll : {A : Type 0} (came : AskFault → Type 0) (taken : Result (Brought A) AskFault) (given : Result (Polled A) SourceFault)
+closed_poll : {A : Type 0} (came : AskFault → Type 0) (taken : Result (PollResult A) AskFault) (given : Result (Polled A) SourceFault)
     → IfErr taken came → IfErr taken HasItsStatus → Reports taken given → given ≡ Ok polled.Closed → IsClosedBy came
-closed_poll came (Ok (brought.Task task)) given is has reports closed = cc
-closed_poll came (Ok brought.Empty) given is has reports closed = cc
-closed_poll came (Ok brought.Settled) given is has reports closed = cc
-closed_poll came (Ok (brought.Lost text)) given is has reports closed = cc
+closed_poll came (Ok (results.Task task)) given is has reports closed = cc
+closed_poll came (Ok results.Empty) given is has reports closed = cc
+closed_poll came (Ok results.Settled) given is has reports closed = cc
+closed_poll came (Ok (results.Lost text)) given is has reports closed = cc
 closed_poll came (Err fault) given is has reports closed = closed_end came fault (end_of fault) given refl is has reports closed
 
 opened_closed : {A : Type 0} (given : Result (Polled (OpenTask × A)) SourceFault) (old : Option OpenTask)
@@ -92,7 +92,7 @@ opened_closed (Ok polled.Closed) old result new is closed = refl
 opened_closed (Err fault) old result new is closed = let same = is.0 in cc
 
 -- a source that a poll closes has come to a fault after which there are no more tasks
-pub closed_by : {A : Type 0} (came : AskFault → Type 0) (taken : Result (Brought (OpenTask × A)) AskFault)
+pub closed_by : {A : Type 0} (came : AskFault → Type 0) (taken : Result (PollResult (OpenTask × A)) AskFault)
     (given : Result (Polled (OpenTask × A)) SourceFault) (old : Option OpenTask) (result : Result (Polled A) SourceFault)
     (new : Option OpenTask) → IfErr taken came → IfErr taken HasItsStatus → Reports taken given → IsOpened given old result new
     → result ≡ Ok polled.Closed → IsClosedBy came

@@ -6,8 +6,8 @@ use Rattle.wh_client.specs.declared.asking.AskFault.{AskFault}
 use Rattle.wh_events.specs.declared.event.Event.{Event}
 use Rattle.wh_events.specs.declared.key.RunKey.{RunKey}
 use Rattle.wh_events.specs.Keys.{same_key, same_key-true}
-use Rattle.wh_live.specs.declared.tasks.Brought.{Brought}
-use Rattle.wh_live.specs.declared.tasks.Brought.TheVariants as brought
+use Rattle.wh_notes.specs.declared.results.PollResult.{PollResult}
+use Rattle.wh_notes.specs.declared.results.PollResult.TheVariants as results
 use Rattle.wh_live.specs.declared.tasks.OpenTask.{OpenTask}
 use Rattle.wh_live.specs.Deliveries.{AreLater, FromQueue, HasKept, later_in}
 use Rattle.wh_live.specs.Private.Opening.{HasLater, IsOpened, KeepsLater, OnTask, later_events}
@@ -57,9 +57,9 @@ module _ (gives : Gives) (names : WorkerNames) (queue : Option Bool) where
   opened_later (Err fault) old result new is later had = subst (HasLater gives names queue) (sym is.1) had
 
 -- what holds for the task that a poll returned holds for the one that is delivered
-pub is_of_brought : {A : Type 0} (p : A → Type 0) (taken : Result (Brought A) AskFault) (given : Result (Polled A) SourceFault)
-    → IfOk taken (OnTask p) → IfOk given (IfTask (λ task. taken ≡ Ok (brought.Task task))) → IfOk given (IfTask p)
-is_of_brought p taken (Ok (polled.Task task)) held is = subst (λ r. IfOk r (OnTask p)) is held
-is_of_brought p taken (Ok polled.Nothing) held is = tt
-is_of_brought p taken (Ok polled.Closed) held is = tt
-is_of_brought p taken (Err fault) held is = tt
+pub is_of_poll : {A : Type 0} (p : A → Type 0) (taken : Result (PollResult A) AskFault) (given : Result (Polled A) SourceFault)
+    → IfOk taken (OnTask p) → IfOk given (IfTask (λ task. taken ≡ Ok (results.Task task))) → IfOk given (IfTask p)
+is_of_poll p taken (Ok (polled.Task task)) held is = subst (λ r. IfOk r (OnTask p)) is held
+is_of_poll p taken (Ok polled.Nothing) held is = tt
+is_of_poll p taken (Ok polled.Closed) held is = tt
+is_of_poll p taken (Err fault) held is = tt

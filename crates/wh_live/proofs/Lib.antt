@@ -4,5 +4,5 @@ pub mod Keeping
 pub mod Later
 pub mod Receipts
 pub mod Silent
-pub mod Waiting
 pub mod Queried
+mod Noted

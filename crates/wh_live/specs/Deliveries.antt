@@ -5,13 +5,14 @@ use Rattle.wh_client.specs.Calls.{Gives}
 use Rattle.wh_client.specs.Histories.{HasAllMembers, IsWhole, ReadsEvents}
 use Rattle.wh_client.specs.Polls.{IsActivityPoll, IsWorkflowPoll}
 use Rattle.wh_client.specs.Roles.{polls_sticky}
+use Rattle.wh_client.specs.declared.notes.SourceNote.{SourceNote}
 use Rattle.wh_client.specs.declared.options.TaskQueueKind.{TaskQueueKind}
 use Rattle.wh_client.specs.declared.options.TaskQueueKind.TheVariants.{Normal, Sticky, Activities}
 use Rattle.wh_events.specs.declared.event.Event.{Event}
 use Rattle.wh_events.specs.declared.key.RunKey.{RunKey}
 use Rattle.wh_events.specs.Keys.{same_key}
-use Rattle.wh_live.specs.declared.tallies.Tally.{Tally}
-use Rattle.wh_live.specs.Tallies.{no_counts}
+use Rattle.wh_notes.specs.declared.tallies.Tally.{Tally}
+use Rattle.wh_notes.specs.Tallies.{no_failures}
 use Rattle.wh_commands.specs.declared.names.WorkerNames.{WorkerNames}
 use Rattle.wh_messages.specs.declared.response.ActivityPoll.TheVariants.{Task}
 use Rattle.wh_messages.specs.declared.response.PolledActivity.{PolledActivity}
@@ -118,13 +119,15 @@ HasKept gives names queue (Some kept) = AreLater gives names queue kept.0 kept.1
 
 -- ---- What a source is
 
--- a source as its callers see it: its role and names, its answers that count as taken, what it has counted, the task
--- whose answer the server acknowledged since the last poll, and the later events of the open task, with its run
+-- a source as its callers see it: its role and names, its answers that count as taken, how often it has failed, what it
+-- has noted, the task whose answer the server acknowledged since the last poll, and the later events of the open task,
+-- with its run
 pub record LiveView : Type 0 where
   pub role : TaskQueueKind
   pub names : WorkerNames
   pub answers : Answers
   pub tally : Tally
+  pub notes : List SourceNote
   pub acknowledged : Option TaskName
   pub later : Option (RunKey × List Event)
 
@@ -134,7 +137,8 @@ fresh role names = record {
   role = role;
   names = names;
   answers = [];
-  tally = no_counts;
+  tally = no_failures;
+  notes = [];
   acknowledged = None;
   later = None;
 }

@@ -1,6 +1,6 @@
-//! Answers workflow tasks, and sends and counts answers.
+//! Answers workflow tasks, and sends, notes and records answers.
 
-ghost use Rattle.std.specs.Prelude.{◌≡◌, ◌≢◌, ◌≤◌, ◌<◌, ◌↔◌, ◌++◌, ◌∷◌, [], true, false, None, Ok, IsTrue, IsOk, IfOk, MatchResult, OnOk, OnErr};
+ghost use Rattle.std.specs.Prelude.{◌≡◌, ◌≢◌, ◌≤◌, ◌<◌, ◌-◌, ◌↔◌, ◌++◌, ◌∷◌, [], true, false, None, Ok, IsTrue, IsOk, IfOk, MatchResult, OnOk, OnErr};
 ghost use Rattle.serde_json.specs.View.{members_view};
 ghost use Rattle.wh_client.specs.Codes.{is_taken};
 ghost use Rattle.wh_client.specs.declared.codes.Receipt.TheVariants.{Acknowledged, NoMemory, Replaced, Withheld};
@@ -11,23 +11,26 @@ ghost use Rattle.wh_tasks.specs.declared.source.Sent.TheVariants.{Workflow as Of
 ghost use Rattle.wh_tasks.specs.Source.{FailsOnly};
 ghost use Rattle.wh_live.specs.Answers.{cause_of, receipt_of};
 ghost use Rattle.wh_live.specs.Private.Answering.{AnswersOpen, CompletesTask, CompletesWith, FailsTask, HasAnswer, IsAnswerReceipt, IsOpenReceipt, IsReplaced, Settles, CountsFault, IsFailed, IsFailedInstead, WithholdsLater, is_reported, receipt_of_sent, reports_refusal, run_use};
-ghost use Rattle.wh_live.specs.Private.Counting.{settled};
+ghost use Rattle.wh_live.specs.Private.Noting.{NotesAnswer, NotesCommands, NotesCompletion, NotesFailure, NotesOpen};
+ghost use Rattle.wh_live.specs.Private.Noting.{NotesReplaced, NotesReply, NotesUnread, NotesWritten};
+ghost use Rattle.wh_notes.specs.Tallies.{settled};
 ghost use Rattle.wh_live.specs.Private.Receipts.{IsRequestReceipt};
 
 use crate::query_handler::QueryHandler;
-use crate::tallies::Tally;
 use crate::task_log::log_workflow;
 use crate::task_queries::complete_answered;
 use crate::tasks::OpenTask;
-use crate::texts::{fault_text, history_text, lost_text, replay_text, request_text};
+use crate::texts::{lost_text, replay_text, request_text};
 use std::alloc::AllocError;
 use wh_client::{
-    AskFault, Client, Connection, Receipt, Request, StatusCode, accepted_answer, refused_answer,
+    AnswerKind, AskFault, Client, Connection, Receipt, Request, SentAnswer, SourceNote, StatusCode,
+    accepted_answer, refused_answer,
 };
 use wh_commands::{CarriedOver, Members, RequestFault, continues_as_new};
 use wh_events::{Event, GhostList, OutOfMemory};
 use wh_json::ReadFault;
 use wh_messages::FailedCause;
+use wh_notes::{SourceNotes, Tally, fault_text, history_text};
 use wh_replay::{Answer, Fault};
 use wh_slots::TaskName;
 use wh_tasks::{Acceptance, RunUse, Sent, SourceFault};
@@ -130,9 +133,9 @@ fn report_lost<L: Connection>(client: &Client<'_, L>, task: &OpenTask, fault: &A
     }
 }
 
-/// Returns what became of an answer that was sent, by whether the server discarded the task, and
-/// reports it if it was refused or lost and that is not normal.
-pub(crate) fn receive<L: Connection>(
+/// Returns what became of an answer, by what its call came to: whether the server discarded the
+/// task, or why it failed. Reports that if it was refused or lost and that is not normal.
+fn receipt_of_call<L: Connection>(
     client: &Client<'_, L>,
     task: &OpenTask,
     sent: Result<bool, AskFault>,
@@ -152,21 +155,57 @@ pub(crate) fn receive<L: Connection>(
     }
 }
 
+/// Returns what is noted of an answer to a task that was sent, at this time in microseconds of the
+/// connection's clock.
+fn sent_answer(task: &OpenTask, kind: AnswerKind, receipt: Receipt, now: u64) -> SentAnswer
+    ensures { result
+        ≡ record { kind = kind; receipt = receipt; microseconds = now - task.now.since } }
+{
+    SentAnswer {
+        kind,
+        receipt,
+        microseconds: now.saturating_sub(task.since),
+    }
+}
+
+/// Returns what became of an answer that was sent, as [`receipt_of_call`] does, and notes it.
+pub(crate) fn receive<L: Connection>(
+    client: &Client<'_, L>,
+    task: &OpenTask,
+    kind: AnswerKind,
+    sent: Result<bool, AskFault>,
+    notes: &mut SourceNotes,
+) -> Receipt
+    ensures is { result ≡ receipt_of_sent sent }
+    ensures sent { result ≢ Withheld }
+    ensures kept { result ≢ Replaced }
+    ensures noted { NotesAnswer L.shows task.now.since kind result notes.old notes.new }
+{
+    let receipt = receipt_of_call(client, task, sent);
+    let now = client.connection.microseconds();
+    let answer = sent_answer(task, kind, receipt, now);
+    notes.note(client.connection, SourceNote::Answer(answer));
+    receipt
+}
+
 /// Sends an answer to a task, if there was memory for it.
 pub(crate) fn send_written<L: Connection>(
     client: &Client<'_, L>,
     task: &OpenTask,
+    kind: AnswerKind,
     request: Result<Request, OutOfMemory>,
+    notes: &mut SourceNotes,
 ) -> Receipt
     ensures received { MatchResult request
         (λ request. IsRequestReceipt L.gives L.fails request result) (λ _. result ≡ NoMemory) }
     ensures sent { result ≢ Withheld }
     ensures kept { result ≢ Replaced }
+    ensures noted { NotesWritten L.shows task.now.since kind result notes.old notes.new }
 {
     match request {
         Ok(request) => {
             let sent = client.send(request);
-            receive(client, task, sent)
+            receive(client, task, kind, sent, notes)
         }
         Err(_) => Receipt::NoMemory,
     }
@@ -178,29 +217,37 @@ fn fail<L: Connection>(
     task: &OpenTask,
     cause: FailedCause,
     message: &str,
+    notes: &mut SourceNotes,
 ) -> Receipt
     ensures later { (result ≡ Withheld) ↔ (1 < task.now.attempt) }
     ensures sent { result ≢ Withheld →
         FailsTask L.gives L.fails client.now.options.now.names task.now.token cause result }
     ensures kept { result ≢ Replaced }
+    ensures noted { NotesFailure L.shows task.now.since result notes.old notes.new }
 {
     report_of(client, task, message);
     if !sends_failure(task.attempt) {
         return Receipt::Withheld;
     }
     let request = client.failure_request(&task.token, cause, message);
-    send_written(client, task, request)
+    send_written(client, task, AnswerKind::WorkflowFailure, request, notes)
 }
 
 /// Fails a workflow task because of a fault of replay.
-fn fail_replay<L: Connection>(client: &Client<'_, L>, task: &OpenTask, fault: &Fault) -> Receipt
+fn fail_replay<L: Connection>(
+    client: &Client<'_, L>,
+    task: &OpenTask,
+    fault: &Fault,
+    notes: &mut SourceNotes,
+) -> Receipt
     ensures later { result ≢ NoMemory → (result ≡ Withheld) ↔ (1 < task.now.attempt) }
     ensures sent { result ≢ Withheld →
         FailsTask L.gives L.fails client.now.options.now.names task.now.token (cause_of fault.now) result }
     ensures kept { result ≢ Replaced }
+    ensures noted { NotesFailure L.shows task.now.since result notes.old notes.new }
 {
     match replay_text(client.allocator(), fault) {
-        Ok(text) => fail(client, task, cause_of(fault), text.as_str()),
+        Ok(text) => fail(client, task, cause_of(fault), text.as_str(), notes),
         Err(_) => Receipt::NoMemory,
     }
 }
@@ -210,13 +257,15 @@ pub(crate) fn fail_unreadable<L: Connection>(
     client: &Client<'_, L>,
     task: &OpenTask,
     fault: &ReadFault,
+    notes: &mut SourceNotes,
 ) -> Receipt
     ensures later { result ≢ NoMemory → (result ≡ Withheld) ↔ (1 < task.now.attempt) }
     ensures sent { result ≢ Withheld →
         FailsTask L.gives L.fails client.now.options.now.names task.now.token Unhandled result }
+    ensures noted { NotesFailure L.shows task.now.since result notes.old notes.new }
 {
     match history_text(client.allocator(), fault) {
-        Ok(text) => fail(client, task, FailedCause::Unhandled, text.as_str()),
+        Ok(text) => fail(client, task, FailedCause::Unhandled, text.as_str(), notes),
         Err(_) => Receipt::NoMemory,
     }
 }
@@ -228,15 +277,17 @@ fn replace<L: Connection>(
     task: &OpenTask,
     cause: FailedCause,
     reason: Result<String, AllocError>,
+    notes: &mut SourceNotes,
 ) -> Receipt
     ensures replaced { IsReplaced result }
     ensures failed { result ≡ Replaced →
         IsFailed L.gives L.fails client.now.options.now.names task.now.token task.now.attempt cause }
+    ensures noted { NotesReplaced L.shows task.now.since result notes.old notes.new }
 {
     let Ok(text) = reason else {
         return Receipt::NoMemory;
     };
-    match fail(client, task, cause, text.as_str()) {
+    match fail(client, task, cause, text.as_str(), notes) {
         Receipt::NoMemory => Receipt::NoMemory,
         _ => Receipt::Replaced,
     }
@@ -248,18 +299,20 @@ fn send_completed<L: Connection>(
     client: &Client<'_, L>,
     task: &OpenTask,
     request: Request,
+    notes: &mut SourceNotes,
 ) -> Receipt
     ensures received { IsRequestReceipt L.gives L.fails request result }
     ensures sent { result ≢ Withheld }
     ensures failed { result ≡ Replaced →
         IsFailed L.gives L.fails client.now.options.now.names task.now.token task.now.attempt TooLarge }
+    ensures noted { NotesCompletion L.shows task.now.since result notes.old notes.new }
 {
     match client.send(request) {
         Err(fault) if fault.is_too_large() => {
             let reason = fault_text(client.allocator(), &fault);
-            replace(client, task, FailedCause::TooLarge, reason)
+            replace(client, task, FailedCause::TooLarge, reason, notes)
         }
-        sent => receive(client, task, sent),
+        sent => receive(client, task, AnswerKind::WorkflowCompletion, sent, notes),
     }
 }
 
@@ -268,11 +321,13 @@ pub(crate) fn replace_unwritten<L: Connection>(
     client: &Client<'_, L>,
     task: &OpenTask,
     fault: &RequestFault,
+    notes: &mut SourceNotes,
 ) -> Receipt
     ensures replaced { IsReplaced result }
     ensures memory { fault.now ≡ Unwritten → result ≡ NoMemory }
     ensures failed { result ≡ Replaced →
         IsFailed L.gives L.fails client.now.options.now.names task.now.token task.now.attempt Unhandled }
+    ensures noted { NotesReplaced L.shows task.now.since result notes.old notes.new }
 {
     match fault {
         RequestFault::OutOfMemory => Receipt::NoMemory,
@@ -280,7 +335,7 @@ pub(crate) fn replace_unwritten<L: Connection>(
         | RequestFault::NotScheduled { .. }
         | RequestFault::NeverSent { .. } => {
             let reason = request_text(client.allocator(), fault);
-            replace(client, task, FailedCause::Unhandled, reason)
+            replace(client, task, FailedCause::Unhandled, reason, notes)
         }
     }
 }
@@ -294,16 +349,18 @@ pub(crate) fn complete_with<L: Connection>(
     events: &[Event],
     results: Members,
     carried: &CarriedOver,
+    notes: &mut SourceNotes,
 ) -> Receipt
     ensures sent { result ≢ Withheld }
     ensures received { CompletesWith L.gives L.fails client.now.options.now task.now commands.now
         events.now (members_view results.entries) (carried_seen carried.now) result }
     ensures replaced { result ≡ Replaced →
         IsFailedInstead L.gives L.fails client.now.options.now.names task.now }
+    ensures noted { NotesCompletion L.shows task.now.since result notes.old notes.new }
 {
     match client.completion_request(&task.token, commands, events, results, carried) {
-        Ok(request) => send_completed(client, task, request),
-        Err(fault) => replace_unwritten(client, task, &fault),
+        Ok(request) => send_completed(client, task, request, notes),
+        Err(fault) => replace_unwritten(client, task, &fault, notes),
     }
 }
 
@@ -315,6 +372,7 @@ fn complete<L: Connection, Q: QueryHandler>(
     task: &OpenTask,
     commands: &[Command],
     events: &[Event],
+    notes: &mut SourceNotes,
 ) -> Receipt
     requires { Q.ready query_handler.now }
     ensures sent { result ≢ Withheld }
@@ -322,16 +380,34 @@ fn complete<L: Connection, Q: QueryHandler>(
         client.now.options.now task.now commands.now events.now result }
     ensures replaced { result ≡ Replaced →
         IsFailedInstead L.gives L.fails client.now.options.now.names task.now }
+    ensures noted { NotesCommands L.gives L.fails L.shows client.now.options.now.names task.now
+        commands.now result notes.old notes.new }
 {
     if !continues_as_new(commands) {
         let carried = CarriedOver::nothing();
-        return complete_answered(client, query_handler, task, commands, events, &carried);
+        return complete_answered(
+            client,
+            query_handler,
+            task,
+            commands,
+            events,
+            &carried,
+            notes,
+        );
     }
     match client.fetch_carried(&task.run) {
         Ok(carried) => {
-            complete_answered(client, query_handler, task, commands, events, &carried)
+            complete_answered(
+                client,
+                query_handler,
+                task,
+                commands,
+                events,
+                &carried,
+                notes,
+            )
         }
-        Err(fault) => receive(client, task, Err(fault)),
+        Err(fault) => receipt_of_call(client, task, Err(fault)),
     }
 }
 
@@ -342,6 +418,7 @@ fn respond<L: Connection, Q: QueryHandler>(
     task: &OpenTask,
     answer: &Answer,
     events: &[Event],
+    notes: &mut SourceNotes,
 ) -> Receipt
     requires { Q.ready query_handler.now }
     ensures kept_back { WithholdsLater task.now answer.now result }
@@ -349,10 +426,14 @@ fn respond<L: Connection, Q: QueryHandler>(
         L.gives L.fails client.now.options.now task.now answer.now events.now result }
     ensures replaced { result ≡ Replaced →
         IsFailedInstead L.gives L.fails client.now.options.now.names task.now }
+    ensures noted { NotesReply L.gives L.fails L.shows client.now.options.now.names answer.now
+        task.now result notes.old notes.new }
 {
     match answer {
-        Answer::Complete(commands) => complete(client, query_handler, task, commands.get(), events),
-        Answer::Fail(fault) => fail_replay(client, task, fault),
+        Answer::Complete(commands) => {
+            complete(client, query_handler, task, commands.get(), events, notes)
+        }
+        Answer::Fail(fault) => fail_replay(client, task, fault, notes),
     }
 }
 
@@ -363,15 +444,17 @@ pub(crate) fn settle_unread<L: Connection>(
     client: &Client<'_, L>,
     current: &mut Option<OpenTask>,
     fault: &AskFault,
+    notes: &mut SourceNotes,
 ) -> bool
     ensures counts { CountsFault L.gives L.fails client.now.options.now.names current.old fault.now result }
     ensures settled { current.new ≡ None }
+    ensures noted { NotesUnread L.shows current.old fault.now notes.old notes.new }
 {
     let Some(task) = current.take() else {
         return true;
     };
     match fault {
-        AskFault::History(why) => fail_unreadable(client, &task, why) == Receipt::NoMemory,
+        AskFault::History(why) => fail_unreadable(client, &task, why, notes) == Receipt::NoMemory,
         AskFault::Closed => false,
         AskFault::Output
         | AskFault::Refused { .. }
@@ -393,10 +476,13 @@ fn answer_open<L: Connection, Q: QueryHandler>(
     answer: &Answer,
     events: &[Event],
     steps: u64,
+    notes: &mut SourceNotes,
 ) -> Receipt
     requires { Q.ready query_handler.now }
-    ensures { IsOpenReceipt (IsAnswerReceipt (Q.gives_results query_handler.now)
+    ensures received { IsOpenReceipt (IsAnswerReceipt (Q.gives_results query_handler.now)
         L.gives L.fails client.now.options.now answer.now events.now) current.now name result }
+    ensures noted { NotesOpen (NotesReply L.gives L.fails L.shows client.now.options.now.names answer.now)
+        current.now name result notes.old notes.new }
 {
     let Some(task) = current else {
         return Receipt::Lost;
@@ -404,7 +490,7 @@ fn answer_open<L: Connection, Q: QueryHandler>(
     if task.name != name {
         return Receipt::Lost;
     }
-    let receipt = respond(client, query_handler, task, answer, events);
+    let receipt = respond(client, query_handler, task, answer, events, notes);
     log_workflow(client, task, answer, events, steps, receipt);
     receipt
 }
@@ -415,6 +501,7 @@ pub(crate) fn answer_workflow<L: Connection, Q: QueryHandler>(
     client: &Client<'_, L>,
     query_handler: &Q,
     tally: &mut Tally,
+    notes: &mut SourceNotes,
     taken: &mut GhostList<(TaskName, Sent)>,
     current: Option<OpenTask>,
     name: TaskName,
@@ -427,8 +514,11 @@ pub(crate) fn answer_workflow<L: Connection, Q: QueryHandler>(
     ensures unsent { OnErr result.sent (taken.new.items ≡ taken.old.items) }
     ensures run { result.run ≡ RunUse.Cache → AnswersOpen (IsAnswerReceipt (Q.gives_results query_handler.now)
         L.gives L.fails client.now.options.now answer events.now) current name Acknowledged }
-    ensures settled { Settles (IsOpenReceipt (IsAnswerReceipt (Q.gives_results query_handler.now)
-        L.gives L.fails client.now.options.now answer events.now) current name)
+    ensures settled { Settles (λ receipt.
+        IsOpenReceipt (IsAnswerReceipt (Q.gives_results query_handler.now)
+        L.gives L.fails client.now.options.now answer events.now) current name receipt
+        × NotesOpen (NotesReply L.gives L.fails L.shows client.now.options.now.names answer)
+        current name receipt notes.old notes.new)
         result.sent tally.old tally.new }
     ensures failures { FailsOnly result.sent tally.old.failures tally.new.failures }
 {
@@ -440,6 +530,7 @@ pub(crate) fn answer_workflow<L: Connection, Q: QueryHandler>(
         &answer,
         events,
         steps,
+        notes,
     );
     let sent = settle(tally, taken, receipt, (name, Sent::Workflow(answer)));
     Acceptance {
@@ -448,7 +539,7 @@ pub(crate) fn answer_workflow<L: Connection, Q: QueryHandler>(
     }
 }
 
-/// Counts what became of an answer, and records the answer if it counts as taken.
+/// Counts an answer that does not count as taken, and records one that does.
 pub(crate) fn settle(
     tally: &mut Tally,
     taken: &mut GhostList<(TaskName, Sent)>,
@@ -461,7 +552,6 @@ pub(crate) fn settle(
     ensures failures { FailsOnly result tally.old.failures tally.new.failures }
     ensures tally { tally.new ≡ settled receipt tally.old }
 {
-    tally.count_answer(receipt);
     if receipt.is_taken() {
         *taken = taken.with(&sent);
         return Ok(());

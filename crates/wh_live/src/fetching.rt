@@ -5,13 +5,14 @@ ghost use Rattle.wh_tasks.specs.Numbers.{last_number};
 ghost use Rattle.wh_tasks.specs.Source.{FailsOnly};
 ghost use Rattle.wh_live.specs.Deliveries.{IsFetched, continued, going_on};
 ghost use Rattle.wh_live.specs.Private.Answering.{CountsUnread};
+ghost use Rattle.wh_live.specs.Private.Noting.{NotesFetch, NotesUnread};
 ghost use Rattle.wh_live.specs.Private.Opening.{later_of, KeepsLater};
 
 use crate::answering::settle_unread;
-use crate::tallies::Tally;
 use crate::tasks::OpenTask;
 use wh_client::{AskFault, Client, Connection, read_history};
 use wh_events::{Event, OutOfMemory, RunKey};
+use wh_notes::{SourceNotes, Tally};
 use wh_tasks::SourceFault;
 
 /// Returns the number after that of the last event, 1 if there is none.
@@ -95,15 +96,17 @@ fn note_history(current: &mut Option<OpenTask>, history: &[Event])
 fn fail_fetch<L: Connection>(
     client: &Client<'_, L>,
     tally: &mut Tally,
+    notes: &mut SourceNotes,
     current: &mut Option<OpenTask>,
     fault: &AskFault,
 ) -> SourceFault
     ensures tally { CountsUnread L.gives L.fails client.now.options.now.names current.old fault.now
         tally.old tally.new }
     ensures current { current.new ≡ None }
+    ensures noted { NotesUnread L.shows current.old fault.now notes.old notes.new }
     ensures failures { FailsOnly {A = Unit {0}} (Err result) tally.old.failures tally.new.failures }
 {
-    let is_fault = settle_unread(client, current, fault);
+    let is_fault = settle_unread(client, current, fault, notes);
     tally.count_failure(is_fault)
 }
 
@@ -112,6 +115,7 @@ fn fail_fetch<L: Connection>(
 pub(crate) fn whole<L: Connection>(
     client: &Client<'_, L>,
     tally: &mut Tally,
+    notes: &mut SourceNotes,
     current: &mut Option<OpenTask>,
     run: &RunKey,
     up_to: u64,
@@ -119,6 +123,7 @@ pub(crate) fn whole<L: Connection>(
     ensures told { IfOk result (λ history. IsFetched L.gives client.now.options.now.names run.now
         (later_of current.old run.now) up_to history.items) }
     ensures current { KeepsLater current.old current.new }
+    ensures noted { NotesFetch L.shows result current.old notes.old notes.new }
     ensures failures { FailsOnly result tally.old.failures tally.new.failures }
 {
     match fetch(client, later_of(current, run), run, up_to) {
@@ -126,6 +131,6 @@ pub(crate) fn whole<L: Connection>(
             note_history(current, history.as_slice());
             Ok(history)
         }
-        Err(fault) => Err(fail_fetch(client, tally, current, &fault)),
+        Err(fault) => Err(fail_fetch(client, tally, notes, current, &fault)),
     }
 }

@@ -2,19 +2,19 @@
 
 ghost use Rattle.std.specs.Prelude.{◌≡◌, None, Some};
 ghost use Rattle.wh_live.specs.Deliveries.{ComesFrom, Delivers, Fetches, fresh};
+ghost use Rattle.wh_notes.specs.Notes.{counts_of};
 ghost use Rattle.wh_tasks.specs.declared.source.RunUse.{RunUse};
 
 use crate::activities::answer_activity;
 use crate::answering::answer_workflow;
 use crate::fetching::whole;
-use crate::journals::Journal;
 use crate::polling::{poll_activity, poll_workflow};
 use crate::query_handler::QueryHandler;
-use crate::tallies::Tally;
 use crate::tasks::OpenTask;
 use std::marker::Model;
 use wh_client::{Client, Connection, LiveOptions, TaskQueueKind};
 use wh_events::{Event, GhostList, RunKey};
+use wh_notes::{Journal, SourceCounts, Tally};
 use wh_replay::Answer;
 use wh_slots::TaskName;
 use wh_tasks::{
@@ -46,7 +46,7 @@ fn cacheable_task(run: RunUse, name: TaskName) -> Option<TaskName>
 /// A query that comes alone is passed, during the poll, to what answers queries beside the workers.
 /// One that comes with a task is answered with it, by the handler of queries. If the server does not
 /// accept so large an answer, it is sent again without the results; so it is sent at once if there
-/// was no memory for them. The server asks such queries again alone.
+/// was no memory for them, or for the answer with them. The server asks such queries again alone.
 #[derive(Drop)]
 pub struct LiveSource<'a, L: Connection, Q: QueryHandler> {
     client: Client<'a, L>,
@@ -63,7 +63,7 @@ impl<'a, L: Connection, Q: QueryHandler> Model for LiveSource<'a, L, Q> {
     ghost use Rattle.wh_client.specs.Roles.{polls_sticky};
     ghost use Rattle.wh_live.specs.Deliveries.{LiveView};
     ghost use Rattle.wh_live.specs.Private.Opening.{HasLater, later_kept};
-    ghost use Rattle.wh_live.specs.Private.Polls.{IsOverIfEnded};
+    ghost use Rattle.wh_notes.specs.Polls.{IsOverIfEnded};
 
     ghost Value = { LiveView };
 
@@ -72,6 +72,7 @@ impl<'a, L: Connection, Q: QueryHandler> Model for LiveSource<'a, L, Q> {
       names = s.client.options.now.names;
       answers = s.taken.items;
       tally = s.journal.tally;
+      notes = s.journal.notes;
       acknowledged = s.acknowledged;
       later = option_map later_kept s.current;
     } };
@@ -108,11 +109,18 @@ impl<'a, L: Connection, Q: QueryHandler> LiveSource<'a, L, Q> {
         }
     }
 
-    /// Returns what it has counted.
+    /// Returns how often it has failed.
     pub fn tally(&self) -> Tally
         ensures { result ≡ self.now.tally }
     {
         self.journal.tally
+    }
+
+    /// Returns what is counted of its polls and answers.
+    pub fn counts(&self) -> SourceCounts
+        ensures { result ≡ counts_of self.now.notes }
+    {
+        self.journal.notes.counts()
     }
 }
 
@@ -152,6 +160,7 @@ impl<L: Connection, Q: QueryHandler> TaskSource for LiveSource<'_, L, Q> {
         whole(
             &self.client,
             &mut self.journal.tally,
+            &mut self.journal.notes,
             &mut self.current,
             key,
             up_to,
@@ -174,6 +183,7 @@ impl<L: Connection, Q: QueryHandler> TaskSource for LiveSource<'_, L, Q> {
             &self.client,
             self.query_handler,
             &mut self.journal.tally,
+            &mut self.journal.notes,
             &mut self.taken,
             current,
             name,
@@ -198,6 +208,7 @@ impl<L: Connection, Q: QueryHandler> TaskSource for LiveSource<'_, L, Q> {
         answer_activity(
             &self.client,
             &mut self.journal.tally,
+            &mut self.journal.notes,
             &mut self.taken,
             current,
             name,

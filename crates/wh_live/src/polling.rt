@@ -12,25 +12,25 @@ ghost use Rattle.wh_tasks.specs.declared.source.Polled.TheVariants as polled;
 ghost use Rattle.wh_live.specs.Deliveries.{AreLater, FromActivities, FromQueue, IsActivityOf, IsActivityTask};
 ghost use Rattle.wh_live.specs.Deliveries.{IsTaskOf, IsWorkflowTask};
 ghost use Rattle.wh_live.specs.Private.Opening.{IsOpened, OnTask, Opens, OpensActivity, StaysOpen};
-ghost use Rattle.wh_live.specs.Private.Opening.{IsBrought, IsBroughtActivity, IsLost, IsSilent, IsTask};
+ghost use Rattle.wh_live.specs.Private.Opening.{HasPollResult, HasActivityResult, IsLost, IsSilent, IsTask};
 ghost use Rattle.wh_live.specs.Private.Opening.{IsActivityFault, IsCutShort, IsWorkflowFault, MayOpen, MayRead};
 ghost use Rattle.wh_live.specs.Private.Opening.{GivesOpened, HasLater, OpensPolled, OpensPolledActivity, OpensQueued};
 ghost use Rattle.wh_live.specs.Private.Opening.{ClosesActivities, ClosesQueue, later_events};
-ghost use Rattle.wh_live.specs.Private.Polls.{IsOverIfEnded};
+ghost use Rattle.wh_live.specs.Private.Noting.{NotesPolled, NotesTaken};
+ghost use Rattle.wh_notes.specs.Polls.{IsOverIfEnded};
 ghost use Rattle.wh_replay.specs.Runs.{follows};
 
 use crate::answering::fail_unreadable;
 use crate::fetching::append_copies;
-use crate::journals::Journal;
-use crate::numbers::fault_in_history;
 use crate::queries::hand_query_on;
-use crate::tasks::{Brought, OpenTask};
-use crate::texts::{PollWords, lost_text};
+use crate::tasks::OpenTask;
+use crate::texts::lost_text;
 use serde_json::Value;
 use std::alloc::Global;
 use wh_client::{AskFault, Client, Connection, Receipt, TaskQueueKind, read_history};
 use wh_events::{Event, Items, OutOfMemory, RunKey};
-use wh_messages::{ActivityPoll, PolledActivity, PolledTask, WorkflowPoll};
+use wh_messages::{ActivityPoll, PolledActivity, PolledTask, WorkflowPoll, fault_in_history};
+use wh_notes::{Journal, PollResult, PollWords, SourceNotes};
 use wh_tasks::{ActivityTask, Polled, SourceFault, WorkflowTask};
 
 /// Opens the task that a poll returned, so that it is the one to be answered.
@@ -101,14 +101,14 @@ fn give_up<L: Connection, T>(
     client: &Client<'_, L>,
     task: &OpenTask,
     fault: AskFault,
-) -> Result<Brought<T>, AskFault>
+) -> Result<PollResult<T>, AskFault>
     ensures lost { IfOk result IsLost }
     ensures closed { IfErr result (λ why. why ≡ asked.Closed) }
     ensures ends { IsErr result ↔ (fault ≡ asked.Closed) }
 {
     match fault {
         AskFault::Closed => Err(AskFault::Closed),
-        fault => Ok(Brought::Lost(lost_text(client.allocator(), task, &fault))),
+        fault => Ok(PollResult::Lost(lost_text(client.allocator(), task, &fault))),
     }
 }
 
@@ -119,7 +119,9 @@ fn read_task<L: Connection>(
     task: OpenTask,
     run: RunKey,
     members: &[Value],
-) -> Result<Brought<(OpenTask, WorkflowTask)>, AskFault>
+    notes: &mut SourceNotes,
+) -> Result<PollResult<(OpenTask, WorkflowTask)>, AskFault>
+    requires { L.shows task.since }
     ensures task { IfOk result (OnTask (λ taken.
         (taken.1.run ≡ run) × ReadsEvents (map view members.now) taken.1.events)) }
     ensures opened { IfOk result (OnTask (λ taken. StaysOpen task taken.0 taken.1.name)) }
@@ -127,14 +129,15 @@ fn read_task<L: Connection>(
     ensures brings { IfOk result (MayRead L.gives L.fails client.now.options.now.names task (map view members.now)) }
     ensures silent { IfErr result IsSilent }
     ensures unclosed { IfErr result (λ why. why ≢ asked.Closed) }
+    ensures noted { NotesTaken L.gives L.shows result notes.old notes.new }
 {
     match read_history(client.allocator(), members) {
-        Ok(events) => Ok(Brought::Task(task_pair(client.allocator(), task, run, events)?)),
+        Ok(events) => Ok(PollResult::Task(task_pair(client.allocator(), task, run, events)?)),
         Err(AskFault::History(fault)) => {
             let fault = fault_in_history(fault, members);
-            match fail_unreadable(client, &task, &fault) {
+            match fail_unreadable(client, &task, &fault, notes) {
                 Receipt::NoMemory => Err(AskFault::OutOfMemory),
-                _ => Ok(Brought::Settled),
+                _ => Ok(PollResult::Settled),
             }
         }
         Err(fault) => give_up(client, &task, fault),
@@ -148,17 +151,20 @@ fn open_task<L: Connection>(
     client: &Client<'_, L>,
     id: u64,
     polled: PolledTask,
-) -> Result<Brought<(OpenTask, WorkflowTask)>, AskFault>
+    notes: &mut SourceNotes,
+) -> Result<PollResult<(OpenTask, WorkflowTask)>, AskFault>
     ensures task { IfOk result (OnTask (λ taken.
         IsTaskOf L.gives client.now.options.now.names (task_seen polled) taken.1)) }
-    ensures opened { IfOk result (OnTask (λ taken. Opens id (task_seen polled) taken.0 taken.1.name)) }
+    ensures opened { IfOk result (OnTask (λ taken. Opens L.shows id (task_seen polled) taken.0 taken.1.name)) }
     ensures later { IfOk result (OnTask (λ taken. taken.0.later.items ≡ later_events taken.1.events)) }
     ensures brings { IfOk result
         (MayOpen L.gives L.fails client.now.options.now.names (task_seen polled)) }
     ensures silent { IfErr result IsSilent }
     ensures closed { IfErr result (λ why. why ≡ asked.Closed →
         IsCutShort L.gives L.fails client.now.options.now.names (task_seen polled)) }
+    ensures noted { NotesTaken L.gives L.shows result notes.old notes.new }
 {
+    let since = client.connection.microseconds();
     let PolledTask {
         token,
         run,
@@ -168,11 +174,11 @@ fn open_task<L: Connection>(
         queries,
     } = polled;
     let key = run.try_copy()?;
-    let mut opened = OpenTask::new(client.allocator(), id, token, key);
+    let mut opened = OpenTask::new(client.allocator(), id, since, token, key);
     opened.attempt = attempt;
     opened.queries = queries;
     match client.with_pages(&run, next_page, members) {
-        Ok(members) => read_task(client, opened, run, members.as_slice()),
+        Ok(members) => read_task(client, opened, run, members.as_slice(), notes),
         Err(fault) => give_up(client, &opened, fault),
     }
 }
@@ -182,25 +188,27 @@ fn open_task<L: Connection>(
 fn take_workflow<L: Connection>(
     client: &Client<'_, L>,
     sticky: bool,
-) -> Result<Brought<(OpenTask, WorkflowTask)>, AskFault>
+    notes: &mut SourceNotes,
+) -> Result<PollResult<(OpenTask, WorkflowTask)>, AskFault>
     ensures task { IfOk result (OnTask (λ taken.
         IsWorkflowTask L.gives client.now.options.now.names sticky taken.1)) }
     ensures opened { IfOk result (OnTask (λ taken.
-        OpensPolled L.gives client.now.options.now.names sticky taken.0 taken.1)) }
+        OpensPolled L.gives L.shows client.now.options.now.names sticky taken.0 taken.1)) }
     ensures later { IfOk result (OnTask (λ taken.
         AreLater L.gives client.now.options.now.names (Some sticky) taken.0.run taken.0.later.items)) }
-    ensures brings { IfOk result (IsBrought L.gives L.fails client.now.options.now.names sticky) }
+    ensures brings { IfOk result (HasPollResult L.gives L.fails client.now.options.now.names sticky) }
     ensures failed { IfErr result
         (IsWorkflowFault L.gives L.fails client.now.options.now.names sticky) }
     ensures refused { IfErr result HasItsStatus }
+    ensures noted { NotesTaken L.gives L.shows result notes.old notes.new }
 {
     let (id, poll) = client.ask_workflow(sticky)?;
     match poll {
-        WorkflowPoll::Task(polled) => open_task(client, id, polled),
-        WorkflowPoll::Nothing => Ok(Brought::Empty),
+        WorkflowPoll::Task(polled) => open_task(client, id, polled, notes),
+        WorkflowPoll::Nothing => Ok(PollResult::Empty),
         WorkflowPoll::Query(query) => {
             hand_query_on(client, query);
-            Ok(Brought::Settled)
+            Ok(PollResult::Settled)
         }
         WorkflowPoll::Unreadable => Err(AskFault::Unreadable),
     }
@@ -211,14 +219,15 @@ fn open_activity<L: Connection>(
     client: &Client<'_, L>,
     id: u64,
     polled: PolledActivity,
-) -> Result<Brought<(OpenTask, ActivityTask)>, AskFault>
+) -> Result<PollResult<(OpenTask, ActivityTask)>, AskFault>
     ensures task { IfOk result (OnTask (λ taken. IsActivityOf polled taken.1)) }
-    ensures opened { IfOk result (OnTask (λ taken. OpensActivity id polled taken.0 taken.1.name)) }
+    ensures opened { IfOk result (OnTask (λ taken. OpensActivity L.shows id polled taken.0 taken.1.name)) }
     ensures later { IfOk result (OnTask (λ taken. taken.0.later.items ≡ [])) }
     ensures brings { IfOk result IsTask }
     ensures silent { IfErr result IsSilent }
     ensures unclosed { IfErr result (λ why. why ≢ asked.Closed) }
 {
+    let since = client.connection.microseconds();
     let PolledActivity {
         token,
         run,
@@ -230,7 +239,7 @@ fn open_activity<L: Connection>(
     client.begin_activity(&token, info);
     let key = run.try_copy()?;
     let what = activity.try_copy()?;
-    let mut opened = OpenTask::new(client.allocator(), id, token, key);
+    let mut opened = OpenTask::new(client.allocator(), id, since, token, key);
     opened.what = what;
     let task = ActivityTask {
         name: opened.name,
@@ -239,27 +248,27 @@ fn open_activity<L: Connection>(
         activity,
         input,
     };
-    Ok(Brought::Task((opened, task)))
+    Ok(PollResult::Task((opened, task)))
 }
 
 /// Polls for activity tasks and reads the result. One that can't be read is a fault.
 #[tactic(auto, using(crate::proofs::Silent::silent_has_status))]
 fn take_activity<L: Connection>(
     client: &Client<'_, L>,
-) -> Result<Brought<(OpenTask, ActivityTask)>, AskFault>
+) -> Result<PollResult<(OpenTask, ActivityTask)>, AskFault>
     ensures task { IfOk result (OnTask (λ taken.
         IsActivityTask L.gives client.now.options.now.names taken.1)) }
     ensures opened { IfOk result (OnTask (λ taken.
-        OpensPolledActivity L.gives client.now.options.now.names taken.0 taken.1)) }
+        OpensPolledActivity L.gives L.shows client.now.options.now.names taken.0 taken.1)) }
     ensures later { IfOk result (OnTask (λ taken. taken.0.later.items ≡ [])) }
-    ensures brings { IfOk result (IsBroughtActivity L.gives client.now.options.now.names) }
+    ensures brings { IfOk result (HasActivityResult L.gives client.now.options.now.names) }
     ensures failed { IfErr result (IsActivityFault L.gives L.fails client.now.options.now.names) }
     ensures refused { IfErr result HasItsStatus }
 {
     let (id, poll) = client.ask_activity()?;
     match poll {
         ActivityPoll::Task(polled) => open_activity(client, id, polled),
-        ActivityPoll::Nothing => Ok(Brought::Empty),
+        ActivityPoll::Nothing => Ok(PollResult::Empty),
         ActivityPoll::Unreadable => Err(AskFault::Unreadable),
     }
 }
@@ -273,7 +282,7 @@ pub(crate) fn poll_workflow<L: Connection>(
 ) -> Result<Polled<WorkflowTask>, SourceFault>
     ensures task { IfOk result (IfTask
         (FromQueue L.gives client.now.options.now.names (polls_sticky role))) }
-    ensures opened { GivesOpened (OpensQueued L.gives client.now.options.now.names (polls_sticky role))
+    ensures opened { GivesOpened (OpensQueued L.gives L.shows client.now.options.now.names (polls_sticky role))
         result current.new }
     ensures later { HasLater L.gives client.now.options.now.names (polls_sticky role) current.old →
         HasLater L.gives client.now.options.now.names (polls_sticky role) current.new }
@@ -281,6 +290,7 @@ pub(crate) fn poll_workflow<L: Connection>(
     ensures ended { IsOverIfEnded L.fails journal.old.ended → IsOverIfEnded L.fails journal.new.ended }
     ensures closed { result ≡ Ok polled.Closed →
         ClosesQueue L.gives L.fails client.now.options.now.names (polls_sticky role) journal.old.ended }
+    ensures noted { NotesPolled L.shows result journal.old.notes journal.new.notes }
 {
     if journal.ended {
         return Ok(Polled::Closed);
@@ -288,7 +298,7 @@ pub(crate) fn poll_workflow<L: Connection>(
     let Some(sticky) = role.polls_sticky() else {
         return Ok(Polled::Closed);
     };
-    let taken = take_workflow(client, sticky);
+    let taken = take_workflow(client, sticky, &mut journal.notes);
     let words = PollWords::for_workflows(&client.options.names, sticky);
     let polled = journal.note_poll(client.connection, words, taken);
     open_polled(current, polled)
@@ -303,13 +313,15 @@ pub(crate) fn poll_activity<L: Connection>(
 ) -> Result<Polled<ActivityTask>, SourceFault>
     ensures task { IfOk result (IfTask
         (FromActivities L.gives client.now.options.now.names role)) }
-    ensures opened { GivesOpened (OpensPolledActivity L.gives client.now.options.now.names) result current.new }
+    ensures opened { GivesOpened (OpensPolledActivity L.gives L.shows client.now.options.now.names)
+        result current.new }
     ensures later { HasLater L.gives client.now.options.now.names (polls_sticky role) current.old →
         HasLater L.gives client.now.options.now.names (polls_sticky role) current.new }
     ensures failures { FailsOnly result journal.old.tally.failures journal.new.tally.failures }
     ensures ended { IsOverIfEnded L.fails journal.old.ended → IsOverIfEnded L.fails journal.new.ended }
     ensures closed { result ≡ Ok polled.Closed →
         ClosesActivities L.gives L.fails client.now.options.now.names role journal.old.ended }
+    ensures noted { NotesPolled L.shows result journal.old.notes journal.new.notes }
 {
     if journal.ended || role != TaskQueueKind::Activities {
         return Ok(Polled::Closed);

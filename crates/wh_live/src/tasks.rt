@@ -16,6 +16,8 @@ pub(crate) struct OpenTask {
     pub(crate) name: TaskName,
     /// Its Task Token.
     pub(crate) token: Text,
+    /// When its poll had returned, in microseconds of the connection's clock.
+    pub(crate) since: u64,
     /// Its run.
     pub(crate) run: RunKey,
     /// Which attempt of the task this is.
@@ -41,9 +43,11 @@ pub(crate) fn workflow_type(events: &[Event]) -> Option<&Text> {
 }
 
 impl OpenTask {
-    /// Returns the task that the poll of an id returned, in its first attempt.
-    pub(crate) fn new(alloc: Global, id: u64, token: Text, run: RunKey) -> OpenTask
+    /// Returns the task that the poll of an id returned at a time, in microseconds of the
+    /// connection's clock. It is the first attempt of the task.
+    pub(crate) fn new(alloc: Global, id: u64, since: u64, token: Text, run: RunKey) -> OpenTask
         ensures name { result.name.0 ≡ id }
+        ensures since { result.since ≡ since }
         ensures token { result.token ≡ token }
         ensures run { result.run ≡ run }
         ensures later { result.later.items ≡ [] }
@@ -51,6 +55,7 @@ impl OpenTask {
         OpenTask {
             name: TaskName(u128::from(id)),
             token,
+            since,
             run,
             attempt: 1,
             what: Text::new(String::new(alloc)),
@@ -81,18 +86,4 @@ impl OpenTask {
             self.what = name;
         }
     }
-}
-
-/// The result of a poll.
-#[derive(Debug, Drop)]
-pub(crate) enum Brought<T> {
-    /// A task.
-    Task(T),
-    /// No task.
-    Empty,
-    /// Something other than a task to be delivered, which has been dealt with.
-    Settled,
-    /// A task that is given up, since its history could not be fetched or read: what is to be
-    /// reported of it.
-    Lost(Result<String, AllocError>),
 }

@@ -4,15 +4,14 @@ use Rattle.serde_json.specs.Data.{Data, string, object}
 use Rattle.wh_events.specs.declared.event.Payload.{Payload}
 use Rattle.wh_commands.specs.declared.names.WorkerNames.{WorkerNames}
 use Rattle.wh_commands.specs.Objects.{put_all}
-use Rattle.wh_commands.specs.Payloads.{json_payloads, payloads_written}
+use Rattle.wh_commands.specs.Payloads.{json_payloads}
 use Rattle.wh_commands.specs.ReadBack.{HaveBytes, payloads_of}
-use Rattle.wh_messages.specs.Requests.{activity_completed, activity_failed, answer_of}
+use Rattle.wh_messages.specs.Requests.{activity_completed, activity_failed, answer_of, answer_with}
 use Rattle.wh_messages.specs.ServerReads.{IsAnswer}
 
 -- the activity of a task is still running, with details for a later attempt
 abbrev pub activity_heartbeat : WorkerNames → List ℕ → List Payload → Data
-activity_heartbeat names token details = object (put_all (
-    (codes "details", payloads_written details) ∷ []) (answer_of names token))
+activity_heartbeat names token details = answer_with names token (codes "details") details
 
 -- an activity that was canceled, with the reason as its details
 abbrev pub activity_canceled : WorkerNames → List ℕ → List ℕ → Data

@@ -8,3 +8,4 @@ pub mod Refusals
 pub mod Completions
 pub mod CancelRequests
 pub mod Times
+pub mod EventFaults

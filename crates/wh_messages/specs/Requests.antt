@@ -117,9 +117,13 @@ query_failed names token message = object_of (
     ∷ (codes "completedType", string (codes "QUERY_RESULT_TYPE_FAILED"))
     ∷ (codes "errorMessage", string message) ∷ [])
 
+-- an answer to an activity task with these payloads under a name
+abbrev pub answer_with : WorkerNames → List ℕ → List ℕ → List Payload → Data
+answer_with names token name payloads = object (put_all ((name, payloads_written payloads) ∷ []) (answer_of names token))
+
+-- an activity that completed with a result
 abbrev pub activity_completed : WorkerNames → List ℕ → List Payload → Data
-activity_completed names token outcome = object (put_all (
-    (codes "result", payloads_written outcome) ∷ []) (answer_of names token))
+activity_completed names token outcome = answer_with names token (codes "result") outcome
 
 -- an activity that failed with a message, with the failure's type, if it has one, and the mark if it is not retried
 abbrev pub activity_failed : WorkerNames → List ℕ → List ℕ → Option (List ℕ) → Bool → Data

@@ -4,10 +4,10 @@ ghost use Rattle.std.specs.Prelude.{◌≡◌, IfOk};
 ghost use Rattle.serde_json.specs.View.{view};
 ghost use Rattle.wh_messages.specs.Heartbeats as spec;
 
-use crate::request::answer_of;
+use crate::request::{answer_of, answer_with};
 use serde_json::{Value, put};
 use std::alloc::Global;
-use wh_commands::{WorkerNames, json_payloads, put_payloads};
+use wh_commands::{WorkerNames, json_payloads};
 use wh_events::{OutOfMemory, Payload};
 
 /// Writes the request of `RecordActivityTaskHeartbeat`: the activity of the task is still running,
@@ -20,9 +20,7 @@ pub fn activity_heartbeat(
 ) -> Result<Value, OutOfMemory>
     ensures { IfOk result (λ params. view params ≡ spec.activity_heartbeat names.now token.now details.now) }
 {
-    let mut members = answer_of(alloc, names, token)?;
-    put_payloads(&mut members, alloc, "details", details)?;
-    Ok(Value::Object(members))
+    answer_with(alloc, names, token, "details", details)
 }
 
 /// Writes the request of `RespondActivityTaskCanceled`, with the reason as its details, a JSON

@@ -5,6 +5,7 @@
 
 mod cancel_request;
 mod completion;
+mod event_faults;
 mod heartbeat;
 pub mod laws;
 mod refusals;
@@ -14,6 +15,7 @@ mod times;
 
 pub use cancel_request::is_cancel_requested;
 pub use completion::is_discarded;
+pub use event_faults::fault_in_history;
 pub use heartbeat::{activity_canceled, activity_heartbeat};
 pub use refusals::is_too_large;
 pub use request::{

@@ -298,8 +298,21 @@ pub fn activity_completed(
 ) -> Result<Value, OutOfMemory>
     ensures { IfOk result (λ params. view params ≡ spec.activity_completed names.now token.now outcome.now) }
 {
+    answer_with(alloc, names, token, "result", outcome)
+}
+
+/// Writes an answer to an activity task with these payloads under a name.
+pub(crate) fn answer_with(
+    alloc: Global,
+    names: &WorkerNames,
+    token: &str,
+    name: &str,
+    payloads: &[Payload],
+) -> Result<Value, OutOfMemory>
+    ensures { IfOk result (λ params. view params ≡ spec.answer_with names.now token.now name.now payloads.now) }
+{
     let mut members = answer_of(alloc, names, token)?;
-    put_payloads(&mut members, alloc, "result", outcome)?;
+    put_payloads(&mut members, alloc, name, payloads)?;
     Ok(Value::Object(members))
 }
 

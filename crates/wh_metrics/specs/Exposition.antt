@@ -2,6 +2,8 @@
 use Rattle.std.specs.Prelude.{ℕ, Option, Some, None, List, [], ◌++◌, codes, decimal}
 use Rattle.wh_metrics.specs.declared.exposition.Amount.{Amount}
 use Rattle.wh_metrics.specs.declared.exposition.Amount.TheVariants.{Count, Time}
+use Rattle.wh_metrics.specs.declared.exposition.SingleMetric.{SingleMetric}
+use Rattle.wh_metrics.specs.declared.exposition.SingleMetric.TheVariants.{Hits, Misses, Polls, EmptyPolls, InHand, CacheSize, CacheWeight}
 use Rattle.wh_metrics.specs.declared.metrics.Gauges.{Gauges}
 use Rattle.wh_metrics.specs.declared.metrics.Metrics.{Metrics}
 use Rattle.wh_metrics.specs.declared.metrics.TaskTimes.{TaskTimes}
@@ -23,9 +25,34 @@ abbrev pub sample_text : (name labels more : List ℕ) → Amount → List ℕ
 sample_text name labels more amount =
     name ++ (codes "{" ++ (labels ++ (more ++ (codes "} " ++ (amount_text amount ++ codes "\n")))))
 
--- a metric of one sample
-abbrev pub single_text : (name kind help labels : List ℕ) → ℕ → List ℕ
-single_text name kind help labels count = head_text name kind help ++ sample_text name labels [] (Count count)
+-- a metric of one sample: its name, what it means, and its type
+abbrev pub name_of : SingleMetric → List ℕ
+name_of Hits = codes "wfhost_sticky_cache_hit_total"
+name_of Misses = codes "wfhost_sticky_cache_miss_total"
+name_of Polls = codes "wfhost_polls_total"
+name_of EmptyPolls = codes "wfhost_polls_empty_total"
+name_of InHand = codes "wfhost_tasks_in_hand"
+name_of CacheSize = codes "wfhost_sticky_cache_size"
+name_of CacheWeight = codes "wfhost_sticky_cache_events"
+
+abbrev pub help_of : SingleMetric → List ℕ
+help_of Hits = codes "Workflow tasks that were answered from a cached run."
+help_of Misses = codes "Workflow tasks that were answered without a cached run."
+help_of Polls = codes "Polls that got a result or an error."
+help_of EmptyPolls = codes "Polls that got an empty response."
+help_of InHand = codes "Tasks in hand."
+help_of CacheSize = codes "Runs in the sticky cache."
+help_of CacheWeight = codes "Weight of the cached runs: one for each event and each whole KiB of a run's input."
+
+abbrev pub kind_of : SingleMetric → List ℕ
+kind_of InHand = codes "gauge"
+kind_of CacheSize = codes "gauge"
+kind_of CacheWeight = codes "gauge"
+kind_of _ = codes "counter"
+
+abbrev pub single_text : SingleMetric → (labels : List ℕ) → ℕ → List ℕ
+single_text metric labels count =
+    head_text (name_of metric) (kind_of metric) (help_of metric) ++ sample_text (name_of metric) labels [] (Count count)
 
 -- the labels of the two kinds of tasks
 abbrev pub workflow_label : List ℕ
@@ -53,17 +80,11 @@ tasks_text labels metrics =
     ++ (outcome_sample labels (codes ",outcome=\"not_found\"") metrics.not_found
     ++ outcome_sample labels (codes ",outcome=\"refused\"") metrics.refused)))
 
--- workflow tasks with a cached run and without one, polls, and those of them that gave no task
+-- workflow tasks with a cached run and without one, polls, and those of them that got an empty response
 abbrev pub totals_text : (labels : List ℕ) → Metrics → List ℕ
 totals_text labels metrics =
-    single_text (codes "wfhost_sticky_cache_hit_total") (codes "counter")
-    (codes "Workflow tasks that were answered from a cached run.") labels metrics.hits
-    ++ (single_text (codes "wfhost_sticky_cache_miss_total") (codes "counter")
-    (codes "Workflow tasks that were answered without a cached run.") labels metrics.misses
-    ++ (single_text (codes "wfhost_polls_total") (codes "counter")
-    (codes "Polls that got a result or an error.") labels metrics.polls
-    ++ single_text (codes "wfhost_polls_empty_total") (codes "counter")
-    (codes "Polls that gave no task.") labels metrics.empty_polls))
+    single_text Hits labels metrics.hits ++ (single_text Misses labels metrics.misses
+    ++ (single_text Polls labels metrics.polls ++ single_text EmptyPolls labels metrics.empty_polls))
 
 -- how long tasks of a kind took together, and how many they were
 abbrev pub summary_text : (labels more : List ℕ) → TaskTimes → List ℕ
@@ -95,13 +116,8 @@ slots_text labels held =
 abbrev pub holdings_text : (labels : List ℕ) → Option Gauges → List ℕ
 holdings_text labels None = []
 holdings_text labels (Some held) =
-    single_text (codes "wfhost_tasks_in_hand") (codes "gauge") (codes "Tasks in hand.") labels held.in_hand
-    ++ (single_text (codes "wfhost_sticky_cache_size") (codes "gauge")
-    (codes "Runs in the sticky cache.") labels held.cached
-    ++ (single_text (codes "wfhost_sticky_cache_events") (codes "gauge")
-    (codes "Weight of the cached runs: one for each event and each whole KiB of a run's input.")
-    labels held.cached_events
-    ++ slots_text labels held))
+    single_text InHand labels held.in_hand ++ (single_text CacheSize labels held.cached
+    ++ (single_text CacheWeight labels held.cached_events ++ slots_text labels held))
 
 -- all counts of a process with these labels
 abbrev pub metrics_text : (labels : List ℕ) → Metrics → List ℕ

@@ -1,10 +1,10 @@
 //! Counts in the form that Prometheus reads.
 
-ghost use Rattle.std.specs.Prelude.{Some};
+ghost use Rattle.std.specs.Prelude.{◌≡◌, Some};
 ghost use Rattle.wh_metrics.specs.Labels.{labels_text};
-ghost use Rattle.wh_metrics.specs.Exposition.{amount_text, head_text, holdings_text, kinds_text, metrics_text};
-ghost use Rattle.wh_metrics.specs.Exposition.{sample_text, single_text, slots_text, summary_text, tasks_text};
-ghost use Rattle.wh_metrics.specs.Exposition.{times_text, totals_text};
+ghost use Rattle.wh_metrics.specs.Exposition.{amount_text, head_text, help_of, holdings_text, kind_of, kinds_text};
+ghost use Rattle.wh_metrics.specs.Exposition.{metrics_text, name_of, sample_text, single_text, slots_text};
+ghost use Rattle.wh_metrics.specs.Exposition.{summary_text, tasks_text, times_text, totals_text};
 
 use crate::labels::WorkerLabels;
 use crate::metrics::{Gauges, Metrics, TaskTimes};
@@ -83,27 +83,78 @@ const GAUGE: &str = "gauge";
 
 /// A metric of one sample.
 #[derive(Clone, Copy)]
-struct Single<'a> {
-    labels: WorkerLabels<'a>,
-    kind: &'a str,
-    name: &'a str,
-    help: &'a str,
-    count: u64,
+enum SingleMetric {
+    Hits,
+    Misses,
+    Polls,
+    EmptyPolls,
+    InHand,
+    CacheSize,
+    CacheWeight,
 }
 
+impl SingleMetric {
+    /// Its name.
+    fn name(self) -> &'static str
+        ensures { result.now ≡ name_of self }
+    {
+        match self {
+            SingleMetric::Hits => "wfhost_sticky_cache_hit_total",
+            SingleMetric::Misses => "wfhost_sticky_cache_miss_total",
+            SingleMetric::Polls => "wfhost_polls_total",
+            SingleMetric::EmptyPolls => "wfhost_polls_empty_total",
+            SingleMetric::InHand => "wfhost_tasks_in_hand",
+            SingleMetric::CacheSize => "wfhost_sticky_cache_size",
+            SingleMetric::CacheWeight => "wfhost_sticky_cache_events",
+        }
+    }
+
+    /// What it means.
+    fn help(self) -> &'static str
+        ensures { result.now ≡ help_of self }
+    {
+        match self {
+            SingleMetric::Hits => "Workflow tasks that were answered from a cached run.",
+            SingleMetric::Misses => "Workflow tasks that were answered without a cached run.",
+            SingleMetric::Polls => "Polls that got a result or an error.",
+            SingleMetric::EmptyPolls => "Polls that got an empty response.",
+            SingleMetric::InHand => "Tasks in hand.",
+            SingleMetric::CacheSize => "Runs in the sticky cache.",
+            SingleMetric::CacheWeight =>
+                "Weight of the cached runs: one for each event and each whole KiB of a run's input.",
+        }
+    }
+
+    /// Its type.
+    fn kind(self) -> &'static str
+        ensures { result.now ≡ kind_of self }
+    {
+        match self {
+            SingleMetric::Hits
+            | SingleMetric::Misses
+            | SingleMetric::Polls
+            | SingleMetric::EmptyPolls => COUNTER,
+            SingleMetric::InHand | SingleMetric::CacheSize | SingleMetric::CacheWeight => GAUGE,
+        }
+    }
+}
+
+/// A metric of one sample, with the labels of the process, and its count.
+#[derive(Clone, Copy)]
+struct Single<'a>(WorkerLabels<'a>, SingleMetric, u64);
+
 impl fmt::Display for Single<'_> {
-    ghost output = { λ s. Some (single_text s.name.now s.kind.now s.help.now
-        (labels_text s.labels.namespace.now s.labels.task_queue.now s.labels.identity.now) s.count) };
+    ghost output = { λ s. Some (single_text s.1
+        (labels_text s.0.namespace.now s.0.task_queue.now s.0.identity.now) s.2) };
 
     fn fmt<W: fmt::Write>(&self, f: &mut fmt::Formatter<W>) -> fmt::Result {
-        let Single {
-            labels,
-            kind,
+        let Single(labels, metric, count) = *self;
+        let name = metric.name();
+        let head = MetricMetadata {
             name,
-            help,
-            count,
-        } = *self;
-        let head = MetricMetadata { name, kind, help };
+            kind: metric.kind(),
+            help: metric.help(),
+        };
         let sample = Sample {
             name,
             labels,
@@ -321,27 +372,9 @@ impl fmt::Display for Holdings<'_> {
             return Ok(());
         };
         let labels = self.labels;
-        let in_hand = Single {
-            labels,
-            kind: GAUGE,
-            name: "wfhost_tasks_in_hand",
-            help: "Tasks in hand.",
-            count: held.in_hand,
-        };
-        let runs = Single {
-            labels,
-            kind: GAUGE,
-            name: "wfhost_sticky_cache_size",
-            help: "Runs in the sticky cache.",
-            count: held.cached,
-        };
-        let events = Single {
-            labels,
-            kind: GAUGE,
-            name: "wfhost_sticky_cache_events",
-            help: "Weight of the cached runs: one for each event and each whole KiB of a run's input.",
-            count: held.cached_events,
-        };
+        let in_hand = Single(labels, SingleMetric::InHand, held.in_hand);
+        let runs = Single(labels, SingleMetric::CacheSize, held.cached);
+        let events = Single(labels, SingleMetric::CacheWeight, held.cached_events);
         let slots = SlotUse { labels, held };
         write!(f, "{in_hand}{runs}{events}{slots}")
     }
@@ -360,34 +393,10 @@ impl fmt::Display for Totals<'_> {
 
     fn fmt<W: fmt::Write>(&self, f: &mut fmt::Formatter<W>) -> fmt::Result {
         let Totals { labels, metrics } = *self;
-        let hits = Single {
-            labels,
-            kind: COUNTER,
-            name: "wfhost_sticky_cache_hit_total",
-            help: "Workflow tasks that were answered from a cached run.",
-            count: metrics.hits,
-        };
-        let misses = Single {
-            labels,
-            kind: COUNTER,
-            name: "wfhost_sticky_cache_miss_total",
-            help: "Workflow tasks that were answered without a cached run.",
-            count: metrics.misses,
-        };
-        let polls = Single {
-            labels,
-            kind: COUNTER,
-            name: "wfhost_polls_total",
-            help: "Polls that got a result or an error.",
-            count: metrics.polls,
-        };
-        let empty = Single {
-            labels,
-            kind: COUNTER,
-            name: "wfhost_polls_empty_total",
-            help: "Polls that gave no task.",
-            count: metrics.empty_polls,
-        };
+        let hits = Single(labels, SingleMetric::Hits, metrics.hits);
+        let misses = Single(labels, SingleMetric::Misses, metrics.misses);
+        let polls = Single(labels, SingleMetric::Polls, metrics.polls);
+        let empty = Single(labels, SingleMetric::EmptyPolls, metrics.empty_polls);
         write!(f, "{hits}{misses}{polls}{empty}")
     }
 }

@@ -52,7 +52,7 @@ pub struct Metrics {
     pub misses: u64,
     /// Polls that got a result or an error.
     pub polls: u64,
-    /// Polls that gave no task.
+    /// Polls that got an empty response.
     pub empty_polls: u64,
     /// Tasks that the server no longer had when they were answered.
     pub not_found: u64,

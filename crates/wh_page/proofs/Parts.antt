@@ -3,11 +3,11 @@ use Rattle.std.proofs.Common.{◌≡◌, ◌<◌, ℕ, suc, zero, true, List, []
 use Rattle.std.specs.List.{list_any}
 use Rattle.std.proofs.lemmas.List.{length-take}
 use Rattle.wh_html.specs.Html.{Html, ◌⊕◌, bytes, each}
-use Rattle.wh_timeline.specs.declared.axis.Stop.{Stop}
-use Rattle.wh_timeline.specs.declared.page.TaskLine.{TaskLine}
-use Rattle.wh_timeline.specs.declared.page.Page.{Page}
-use Rattle.wh_timeline.specs.Views.{shown_lanes, shown_tasks}
-use Rattle.wh_timeline.proofs.Shown.{any-taken, any-below, position-any}
+use Rattle.wh_html.specs.declared.axis.Stop.{Stop}
+use Rattle.wh_html.specs.declared.page.TaskLine.{TaskLine}
+use Rattle.wh_html.specs.declared.page.Page.{Page}
+use Rattle.wh_html.specs.Views.{shown_tasks}
+use Rattle.wh_html.proofs.Shown.{any-taken, any-below, position-any}
 use Rattle.wh_page.specs.Frames.{verdict_html, frame_html}
 use Rattle.wh_page.specs.Tables.{row_html, table_html}
 use Rattle.wh_page.specs.TaskTexts.{is_fault, left_before, shown_lines, task_html, tasks_html}
@@ -52,7 +52,7 @@ verdict-part : (stops : List Stop) (page : Page) → IsPart (verdict_html page) 
 unfolding body_html frame_html
 verdict-part stops page = left _ _ _ (right _ _ _ (left _ _ _ (here _)))
 
-row-part : (stops : List Stop) (page : Page) (part : Html) → IsPart part (each (row_html page.fault) (shown_lanes page)) → IsPart part (body_html stops page)
+row-part : (stops : List Stop) (page : Page) (part : Html) → IsPart part (each (row_html page.fault) page.lanes) → IsPart part (body_html stops page)
 unfolding body_html table_html
 row-part stops page part h = right _ _ _ (right _ _ _ (right _ _ _ (left _ _ _ (right _ _ _ (right _ _ _ (right _ _ _ (left _ _ _ h)))))))
 
@@ -66,7 +66,7 @@ shows_its_parts stops page more =
     let within : (part : Html) → IsPart part (body_html stops page) → IsPart part whole = λ part h. left _ _ _ h in
     record {
       verdict = stands whole (verdict_html page) (within _ (verdict-part stops page));
-      things = λ k d h. stands whole (row_html page.fault (get_or (shown_lanes page) k d)) (within _ (row-part stops page _ (each-part (row_html page.fault) (shown_lanes page) k d h)));
+      things = λ k d h. stands whole (row_html page.fault (get_or page.lanes k d)) (within _ (row-part stops page _ (each-part (row_html page.fault) page.lanes k d h)));
       tasks = λ k d h. stands whole (task_html (get_or (shown_tasks page) k d)) (within _ (task-part stops page _ (each-part task_html (shown_tasks page) k d h)));
     }
 

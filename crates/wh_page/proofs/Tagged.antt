@@ -6,23 +6,23 @@ use Rattle.std.specs.Option.{option_map}
 use Rattle.std.specs.List.{list_all, position_or_len}
 use Rattle.wh_html.specs.Html.{bytes, each}
 use Rattle.wh_html.specs.Tags.{tags}
-use Rattle.wh_html.proofs.Alike.{Alike, is_inner, last, words, both, none, mark, word, text, num, each-alike, decimal-inner}
+use Rattle.wh_html.proofs.Alike.{Alike, is_inner, last, words, texts, both, none, mark, word, text, num, each-alike, decimal-inner}
 use Rattle.wh_html.proofs.Inner.{time, lapse}
-use Rattle.wh_timeline.specs.declared.axis.Stop.{Stop}
-use Rattle.wh_timeline.specs.declared.page.Difference.{Difference}
-use Rattle.wh_timeline.specs.declared.page.Fact.{Fact}
-use Rattle.wh_timeline.specs.declared.page.Lane.{Lane}
-use Rattle.wh_timeline.specs.declared.page.TaskLine.{TaskLine}
-use Rattle.wh_timeline.specs.declared.page.Moment.{Moment}
-use Rattle.wh_timeline.specs.declared.page.Page.{Page}
-use Rattle.wh_timeline.specs.declared.page.Task.{Task}
-use Rattle.wh_timeline.specs.Views.{shown, shown_lanes, shown_tasks}
-use Rattle.wh_timeline.specs.Without.{without_fact, without_difference, without_lane, without_line, without_task, without_texts}
-use Rattle.wh_timeline.proofs.WordsInner.{kind-inner, side-inner}
-use Rattle.wh_timeline.proofs.Drawn.{IsClosed, choose, classes-alike, picture-alike, lanes-shown, tasks-shown}
+use Rattle.wh_html.specs.declared.axis.Stop.{Stop}
+use Rattle.wh_html.specs.declared.page.Difference.{Difference}
+use Rattle.wh_html.specs.declared.page.Fact.{Fact}
+use Rattle.wh_html.specs.declared.page.Lane.{Lane}
+use Rattle.wh_html.specs.declared.page.TaskLine.{TaskLine}
+use Rattle.wh_html.specs.declared.page.Moment.{Moment}
+use Rattle.wh_html.specs.declared.page.Page.{Page}
+use Rattle.wh_html.specs.declared.page.Task.{Task}
+use Rattle.wh_html.specs.Views.{shown, shown_tasks}
+use Rattle.wh_html.specs.Without.{without_fact, without_difference, without_lane, without_line, without_task, without_texts}
+use Rattle.wh_html.proofs.WordsInner.{kind-inner, side-inner}
+use Rattle.wh_html.proofs.Drawn.{IsClosed, choose, classes-alike, picture-alike, tasks-shown}
 use Rattle.wh_page.specs.Frames.{head_html, verdict_class, verdict_html, fact_html, at_html, sides_html, difference_html, frame_html}
-use Rattle.wh_page.specs.Tables.{count_html, moment_html, took_html, type_html, attempts_html, row_head_html, row_html, table_html}
-use Rattle.wh_page.specs.TaskTexts.{number_html, line_html, left_html, is_fault, left_before, shown_lines, left_after, lines_html, open_words, task_html, tasks_html, note_html, notes_html}
+use Rattle.wh_page.specs.Tables.{count_html, moment_html, took_html, label_html, attempts_html, row_head_html, row_html, table_html}
+use Rattle.wh_page.specs.TaskTexts.{number_html, anchor_html, line_html, left_html, is_fault, left_before, shown_lines, left_after, lines_html, open_words, task_html, tasks_html, note_html, notes_html}
 use Rattle.wh_page.specs.Pages.{body_html, page_html}
 use Rattle.wh_page.specs.Laws.{TextsAreNoTags}
 
@@ -66,9 +66,9 @@ took-alike : (opened : Moment) (ended : Option Moment) → IsClosed (took_html o
 took-alike opened None = last _
 took-alike opened (Some ended) = mark _ (lapse _ (last _))
 
-type-alike : (name : Option (List ℕ)) → Alike false false (type_html name) (type_html (option_map (λ _. []) name))
-type-alike None = none
-type-alike (Some name) = mark _ (text _ _ _ (last _))
+label-alike : (type_name : Option (List ℕ)) (name : List ℕ) → Alike false false (label_html type_name name) (label_html (option_map (λ _. []) type_name) [])
+label-alike None name = texts _ _ _
+label-alike (Some type_name) name = text _ _ _ (mark _ (text _ _ _ (last _)))
 
 attempts-alike : (attempts : Option ℕ) → IsClosed (attempts_html attempts)
 attempts-alike None = last _
@@ -76,8 +76,8 @@ attempts-alike (Some attempts) = mark _ (num _ (last _))
 
 row-head-alike : (fault : Option Moment) (lane : Lane) → Alike false false (row_head_html fault lane) (row_head_html fault (without_lane lane))
 row-head-alike fault lane =
-    mark _ (both (classes-alike lane fault true) (mark _ (text _ _ _ (both (type-alike lane.type_name)
-    (mark _ (word _ (kind-inner lane.kind) (last _)))))))
+    mark _ (both (classes-alike lane fault true) (mark _ (both (label-alike lane.type_name lane.name)
+    (mark _ (word _ (kind-inner lane.kind) (last _))))))
 
 row-alike : (fault : Option Moment) (lane : Lane) → Alike false false (row_html fault lane) (row_html fault (without_lane lane))
 unfolding row_html
@@ -96,11 +96,15 @@ number-alike : (event : Option ℕ) → IsClosed (number_html event)
 number-alike None = none
 number-alike (Some event) = mark _ (words _ (decimal-inner event))
 
+anchor-alike : (event : Option ℕ) → Alike true true (anchor_html event) (anchor_html event)
+anchor-alike None = none
+anchor-alike (Some event) = mark _ (num _ (last _))
+
 line-alike : (line : TaskLine) → Alike false false (line_html line) (line_html (without_line line))
 unfolding line_html
 line-alike line =
-    mark _ (word _ (side-inner line.side) (mark _ (word _ (side-inner line.side) (mark _ (both (number-alike line.event)
-    (mark _ (text _ _ _ (last _))))))))
+    mark _ (word _ (side-inner line.side) (mark _ (both (anchor-alike line.event) (mark _ (word _ (side-inner line.side)
+    (mark _ (both (number-alike line.event) (mark _ (text _ _ _ (last _))))))))))
 
 left-alike : (where-of : List ℕ) (left : ℕ) → list_all is_inner where-of ≡ true → IsClosed (left_html where-of left)
 left-alike w left e = choose (left == 0) _ _ none (mark _ (num _ (word _ e (last _))))
@@ -174,9 +178,9 @@ frame-alike page =
 body-alike : (stops : List Stop) (page : Page) → Alike false false (body_html stops page) (body_html stops (without_texts page))
 unfolding body_html without_texts
 body-alike stops page =
-    rw (lanes-shown page, tasks-shown page, length-map page.lanes without_lane, length-map page.tasks without_task)
-    (both (frame-alike page) (both (notes-alike page.notes) (both (picture-alike page.fault stops (shown_lanes page) (length page.lanes) (shown_tasks page))
-    (both (table-alike page.fault (shown_lanes page) (length page.lanes)) (tasks-alike (shown_tasks page) (length page.tasks))))))
+    rw (tasks-shown page, length-map page.tasks without_task)
+    (both (frame-alike page) (both (notes-alike page.notes) (both (picture-alike page.fault stops page.lanes page.rows page.things (shown_tasks page))
+    (both (table-alike page.fault page.lanes page.things) (tasks-alike (shown_tasks page) (length page.tasks))))))
 
 pub texts_are_no_tags : TextsAreNoTags
 texts_are_no_tags stops page more other same =

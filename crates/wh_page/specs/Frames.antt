@@ -1,8 +1,8 @@
 -- What stands above the picture: the verdict, the facts of the run, and the difference.
 use Rattle.std.specs.Prelude.{ℕ, Bool, true, false, Option, Some, None, List, codes}
-use Rattle.wh_timeline.specs.declared.page.Fact.{Fact}
-use Rattle.wh_timeline.specs.declared.page.Difference.{Difference}
-use Rattle.wh_timeline.specs.declared.page.Page.{Page}
+use Rattle.wh_html.specs.declared.page.Fact.{Fact}
+use Rattle.wh_html.specs.declared.page.Difference.{Difference}
+use Rattle.wh_html.specs.declared.page.Page.{Page}
 use Rattle.wh_page.specs.declared.style.TheConstants.{STYLE_OF_TEXT, STYLE_OF_PARTS, STYLE_OF_PICTURE}
 use Rattle.wh_html.specs.Html.{Html, nothing, markup, plain, hole, ◌⊕◌, number, each}
 

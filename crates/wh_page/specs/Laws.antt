@@ -3,11 +3,11 @@ use Rattle.std.specs.Prelude.{◌≡◌, ◌≤◌, ℕ, true, List, ◌++◌, l
 use Rattle.std.specs.List.{list_any}
 use Rattle.wh_html.specs.Html.{Html, bytes}
 use Rattle.wh_html.specs.Tags.{tags}
-use Rattle.wh_timeline.specs.declared.page.TaskLine.{TaskLine}
-use Rattle.wh_timeline.specs.declared.page.Page.{Page}
-use Rattle.wh_timeline.specs.declared.axis.Stop.{Stop}
-use Rattle.wh_timeline.specs.Without.{without_texts}
-use Rattle.wh_timeline.specs.Views.{shown_lanes, shown_tasks}
+use Rattle.wh_html.specs.declared.page.TaskLine.{TaskLine}
+use Rattle.wh_html.specs.declared.page.Page.{Page}
+use Rattle.wh_html.specs.declared.axis.Stop.{Stop}
+use Rattle.wh_html.specs.Without.{without_texts}
+use Rattle.wh_html.specs.Views.{shown_tasks}
 use Rattle.wh_page.specs.Frames.{verdict_html}
 use Rattle.wh_page.specs.Tables.{row_html}
 use Rattle.wh_page.specs.TaskTexts.{is_fault, shown_lines, task_html}
@@ -41,7 +41,7 @@ pub record StandsIn (whole part : List ℕ) : Type 0 where
 -- a page contains these parts of it
 pub record HasParts (page : Page) (html : List ℕ) : Type 0 where
   pub verdict : StandsIn html (bytes (verdict_html page))
-  pub things : All (λ lane. StandsIn html (bytes (row_html page.fault lane))) (shown_lanes page)
+  pub things : All (λ lane. StandsIn html (bytes (row_html page.fault lane))) page.lanes
   pub tasks : All (λ task. StandsIn html (bytes (task_html task))) (shown_tasks page)
 
 -- every page contains its parts

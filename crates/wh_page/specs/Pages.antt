@@ -1,21 +1,21 @@
 -- The whole page.
 use Rattle.std.specs.Prelude.{List, codes, length}
-use Rattle.wh_timeline.specs.declared.page.Page.{Page}
-use Rattle.wh_timeline.specs.declared.axis.Stop.{Stop}
+use Rattle.wh_html.specs.declared.page.Page.{Page}
+use Rattle.wh_html.specs.declared.axis.Stop.{Stop}
 use Rattle.wh_html.specs.Html.{Html, markup, ◌⊕◌}
 use Rattle.wh_page.specs.Frames.{frame_html}
-use Rattle.wh_timeline.specs.Pictures.{picture_html}
+use Rattle.wh_html.specs.Pictures.{picture_html}
 use Rattle.wh_page.specs.Tables.{table_html}
 use Rattle.wh_page.specs.TaskTexts.{tasks_html, notes_html}
-use Rattle.wh_timeline.specs.Views.{shown_lanes, shown_tasks}
+use Rattle.wh_html.specs.Views.{shown_tasks}
 
 -- the page, but for its end, with its times at these stops
 unfoldable pub body_html : List Stop → Page → Html
 body_html stops page =
     frame_html page
     ⊕ notes_html page.notes
-    ⊕ picture_html page.fault stops (shown_lanes page) (length page.lanes) (shown_tasks page)
-    ⊕ table_html page.fault (shown_lanes page) (length page.lanes)
+    ⊕ picture_html page.fault stops page.lanes page.rows page.things (shown_tasks page)
+    ⊕ table_html page.fault page.lanes page.things
     ⊕ tasks_html (shown_tasks page) (length page.tasks)
 
 -- the end of a page

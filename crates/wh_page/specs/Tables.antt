@@ -1,10 +1,10 @@
 -- The things of a run as a table.
 use Rattle.std.specs.Prelude.{ℕ, ◌-◌, ◌==◌, if◌then◌else◌, Option, Some, None, List, codes, length}
-use Rattle.wh_timeline.specs.declared.page.Lane.{Lane}
-use Rattle.wh_timeline.specs.declared.page.Moment.{Moment}
-use Rattle.wh_html.specs.Html.{Html, nothing, markup, plain, hole, ◌⊕◌, number, stamp, span, each}
-use Rattle.wh_timeline.specs.Words.{kind_word}
-use Rattle.wh_timeline.specs.Lanes.{classes_html}
+use Rattle.wh_html.specs.declared.page.Lane.{Lane}
+use Rattle.wh_html.specs.declared.page.Moment.{Moment}
+use Rattle.wh_html.specs.Html.{Html, markup, plain, hole, ◌⊕◌, number, stamp, span, each}
+use Rattle.wh_html.specs.Words.{kind_word}
+use Rattle.wh_html.specs.Lanes.{classes_html}
 
 -- how many of all things are shown, and how many are left out
 abbrev pub count_html : (shown total : ℕ) → Html
@@ -27,10 +27,11 @@ took_html opened None = markup (codes "<td></td>")
 took_html opened (Some ended) =
     markup (codes "<td class=\"time\">") ⊕ span (ended.millis - opened.millis) ⊕ markup (codes "</td>")
 
--- a type, if there is one
-abbrev pub type_html : Option (List ℕ) → Html
-type_html None = nothing
-type_html (Some name) = markup (codes " <span class=\"event\">") ⊕ hole 300 name ⊕ markup (codes "</span>")
+-- the label of a thing: its type and below it its id, or else its id alone
+abbrev pub label_html : Option (List ℕ) → List ℕ → Html
+label_html None name = hole 300 name
+label_html (Some type_name) name =
+    hole 300 type_name ⊕ markup (codes " <span class=\"event\">") ⊕ hole 300 name ⊕ markup (codes "</span>")
 
 -- a cell with a number of attempts, or an empty one
 abbrev pub attempts_html : Option ℕ → Html
@@ -43,8 +44,7 @@ row_head_html fault lane =
     markup (codes "<tr class=\"")
     ⊕ classes_html lane fault
     ⊕ markup (codes "\"><th scope=\"row\">")
-    ⊕ hole 300 lane.name
-    ⊕ type_html lane.type_name
+    ⊕ label_html lane.type_name lane.name
     ⊕ markup (codes "</th><td class=\"kind\">")
     ⊕ plain (kind_word lane.kind)
     ⊕ markup (codes "</td>")

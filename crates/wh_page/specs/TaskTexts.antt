@@ -1,11 +1,11 @@
 -- The tasks of a run, and the notes.
 use Rattle.std.specs.Prelude.{ℕ, ◌-◌, ◌==◌, Bool, true, false, min, if◌then◌else◌, Option, Some, None, unwrap_or, position, List, [], ◌∷◌, take, drop, codes, length}
-use Rattle.wh_timeline.specs.declared.page.TaskLine.{TaskLine}
-use Rattle.wh_timeline.specs.declared.page.Side.{Side}
-use Rattle.wh_timeline.specs.declared.page.Side.TheVariants.{Told, Gives, Recorded, Fault, Note}
-use Rattle.wh_timeline.specs.declared.page.Task.{Task}
+use Rattle.wh_html.specs.declared.page.TaskLine.{TaskLine}
+use Rattle.wh_html.specs.declared.page.Side.{Side}
+use Rattle.wh_html.specs.declared.page.Side.TheVariants.{Told, Gives, Recorded, Fault, Note}
+use Rattle.wh_html.specs.declared.page.Task.{Task}
 use Rattle.wh_html.specs.Html.{Html, nothing, markup, plain, hole, ◌⊕◌, number, stamp, each}
-use Rattle.wh_timeline.specs.Words.{side_word}
+use Rattle.wh_html.specs.Words.{side_word}
 use Rattle.wh_page.specs.Tables.{count_html}
 
 -- the event of a line, if it has one
@@ -13,12 +13,19 @@ abbrev pub number_html : Option ℕ → Html
 number_html None = nothing
 number_html (Some event) = markup (codes "event ") ⊕ number event
 
+-- the id by which a link leads to the line of an event, if it has one
+abbrev pub anchor_html : Option ℕ → Html
+anchor_html None = nothing
+anchor_html (Some event) = markup (codes " id=\"event-") ⊕ number event ⊕ markup (codes "\"")
+
 -- a line of a task
 unfoldable pub line_html : TaskLine → Html
 line_html line =
     markup (codes "<li class=\"")
     ⊕ plain (side_word line.side)
-    ⊕ markup (codes "\"><span class=\"side-word\">")
+    ⊕ markup (codes "\"")
+    ⊕ anchor_html line.event
+    ⊕ markup (codes "><span class=\"side-word\">")
     ⊕ plain (side_word line.side)
     ⊕ markup (codes "</span> <span class=\"event\">")
     ⊕ number_html line.event

@@ -7,8 +7,7 @@ ghost use Rattle.wh_page.specs.Frames.{head_html, verdict_class, verdict_html, f
 
 use crate::style::{STYLE_OF_PARTS, STYLE_OF_PICTURE, STYLE_OF_TEXT};
 use std::fmt;
-use wh_html::Escaped;
-use wh_timeline::{Difference, Fact, Page};
+use wh_html::{Difference, Escaped, Fact, Page};
 
 /// The most characters of a name or a fact that a page shows.
 pub(crate) const NAME: usize = 300;

@@ -13,7 +13,8 @@ mod table;
 mod tasks;
 mod writing;
 
-pub use wh_timeline::{
-    Axis, Difference, Fact, Kind, Lane, Moment, Page, Side, Task, TaskLine, ThingOutcome, axis_of,
+pub use wh_html::{
+    Axis, Difference, Fact, Kind, Lane, Moment, Page, RowPart, Side, Task, TaskLine, ThingOutcome,
+    axis_of,
 };
 pub use writing::{write_body, write_end};

@@ -35,7 +35,7 @@ thead th{color:var(--soft);font-weight:600;font-size:13px}
 tbody th{font-weight:400;overflow-wrap:anywhere;min-width:9rem}
 tr.hit th{color:var(--bad);font-weight:600}
 td{overflow-wrap:break-word}
-.words{min-width:8.5rem;max-width:20rem}
+.words{min-width:8.5rem;max-width:20rem;overflow-wrap:anywhere}
 .time{white-space:nowrap;font-variant-numeric:tabular-nums}
 .event{display:block;color:var(--soft);font-size:12px}
 .failed .words,li.fault,li.fault .event{color:var(--bad)}
@@ -59,6 +59,7 @@ li .side-word,li .event{color:var(--soft);font-size:13px;font-variant-numeric:ta
 li code{white-space:pre-wrap;overflow-wrap:anywhere;unicode-bidi:isolate}
 li.gives code{font-weight:600}
 li.fault .side-word{color:var(--bad);font-weight:600}
+li:target{background:var(--panel);outline:2px solid var(--activity)}
 @media (max-width:40rem){.sides{grid-template-columns:1fr}details li{grid-template-columns:4.5rem 1fr;gap:0 .6rem;padding:.1rem 0 .4rem}li code{grid-column:1/-1}summary .time{float:none;display:block;margin:0}}
 ";
 
@@ -72,8 +73,9 @@ svg .grid{stroke:var(--line)}
 svg .gap{fill:url(#gap)}
 svg .hatch{stroke:var(--soft);stroke-opacity:.28}
 svg .lane .room{fill:var(--fg);fill-opacity:0}
-svg .lane:nth-of-type(even) .room{fill-opacity:.035}
+svg .lane .room.odd{fill-opacity:.035}
 svg .lane:hover .room{fill-opacity:.09}
+svg .lane:hover .bar{stroke:var(--fg);stroke-width:2}
 svg .activity{--c:var(--activity)}
 svg .timer{--c:var(--timer)}
 svg .child{--c:var(--child)}
@@ -85,6 +87,7 @@ svg .open .bar{fill-opacity:.3;stroke:var(--c);stroke-dasharray:3 2}
 svg .canceled .bar{fill-opacity:.3;stroke:var(--c)}
 svg .failed .bar{stroke:var(--bad);stroke-width:2}
 svg .said{fill:var(--soft);font-size:11px}
+svg .id{fill:var(--soft);font-size:10px}
 svg .failed .said{fill:var(--bad)}
 svg .hit text{font-weight:600}
 svg .tick{fill:var(--soft)}

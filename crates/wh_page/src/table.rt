@@ -2,13 +2,11 @@
 
 ghost use Rattle.std.specs.Prelude.{◌≡◌, Some};
 ghost use Rattle.wh_html.specs.Html.{bytes, each};
-ghost use Rattle.wh_page.specs.Tables.{count_html, moment_html, took_html, type_html, attempts_html, row_head_html, row_html, table_html};
+ghost use Rattle.wh_page.specs.Tables.{count_html, moment_html, took_html, label_html, attempts_html, row_head_html, row_html, table_html};
 
 use crate::frame::NAME;
 use std::fmt;
-use wh_events::Text;
-use wh_html::{Escaped, Stamp};
-use wh_timeline::{Classes, Lane, Moment, time_between};
+use wh_html::{Classes, Escaped, Lane, Moment, Stamp, time_between};
 
 /// How many of all things are shown, and how many are left out.
 #[derive(Clone, Copy)]
@@ -75,23 +73,27 @@ impl fmt::Display for TookCell {
     }
 }
 
-/// A type, if there is one.
+/// The label of a thing: its type and below it its id, or else its id alone.
 #[derive(Drop)]
-struct TypeName<'a>(&'a Option<Text>);
+struct Label<'a>(&'a Lane);
 
-impl fmt::Display for TypeName<'_> {
-    ghost output = { λ n. Some (bytes (type_html n.0.now)) };
+impl fmt::Display for Label<'_> {
+    ghost output = { λ l. Some (bytes (label_html l.0.now.type_name l.0.now.name)) };
 
     fn fmt<W: fmt::Write>(&self, f: &mut fmt::Formatter<W>) -> fmt::Result {
-        match self.0 {
-            Some(name) => {
-                let name = Escaped {
-                    text: name,
+        let name = Escaped {
+            text: &self.0.name,
+            most: NAME,
+        };
+        match &self.0.type_name {
+            Some(type_name) => {
+                let type_name = Escaped {
+                    text: type_name,
                     most: NAME,
                 };
-                write!(f, " <span class=\"event\">{name}</span>")
+                write!(f, "{type_name} <span class=\"event\">{name}</span>")
             }
-            None => Ok(()),
+            None => write!(f, "{name}"),
         }
     }
 }
@@ -120,15 +122,11 @@ impl fmt::Display for RowHead<'_> {
 
     fn fmt<W: fmt::Write>(&self, f: &mut fmt::Formatter<W>) -> fmt::Result {
         let classes = Classes(self.1, self.0);
-        let name = Escaped {
-            text: &self.1.name,
-            most: NAME,
-        };
-        let type_name = TypeName(&self.1.type_name);
+        let label = Label(self.1);
         let kind = self.1.kind.word();
         write!(
             f,
-            "<tr class=\"{classes}\"><th scope=\"row\">{name}{type_name}</th><td class=\"kind\">{kind}</td>"
+            "<tr class=\"{classes}\"><th scope=\"row\">{label}</th><td class=\"kind\">{kind}</td>"
         )
     }
 }

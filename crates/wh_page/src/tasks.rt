@@ -2,14 +2,13 @@
 
 ghost use Rattle.std.specs.Prelude.{◌≡◌, Some, position};
 ghost use Rattle.wh_html.specs.Html.{bytes, each};
-ghost use Rattle.wh_page.specs.TaskTexts.{number_html, line_html, left_html, is_fault, left_before, shown_lines, left_after, lines_html, open_words, task_html, tasks_html, note_html, notes_html};
+ghost use Rattle.wh_page.specs.TaskTexts.{number_html, anchor_html, line_html, left_html, is_fault, left_before, shown_lines, left_after, lines_html, open_words, task_html, tasks_html, note_html, notes_html};
 
 use crate::frame::NAME;
 use crate::table::Count;
 use std::fmt;
 use wh_events::Text;
-use wh_html::{Escaped, Stamp};
-use wh_timeline::{Side, Task, TaskLine, first_items};
+use wh_html::{Escaped, Side, Stamp, Task, TaskLine, first_items};
 
 /// The most lines of a task that are shown.
 const LINES: usize = 40;
@@ -32,6 +31,21 @@ impl fmt::Display for LineEvent {
     }
 }
 
+/// The id by which a link leads to the line of an event, if it has one.
+#[derive(Clone, Copy)]
+struct Anchor(Option<u64>);
+
+impl fmt::Display for Anchor {
+    ghost output = { λ a. Some (bytes (anchor_html a.0)) };
+
+    fn fmt<W: fmt::Write>(&self, f: &mut fmt::Formatter<W>) -> fmt::Result {
+        match self.0 {
+            Some(event) => write!(f, " id=\"event-{event}\""),
+            None => Ok(()),
+        }
+    }
+}
+
 /// A line of a task.
 #[derive(Drop)]
 struct LineRow<'a>(&'a TaskLine);
@@ -42,6 +56,7 @@ impl fmt::Display for LineRow<'_> {
     #[tactic(auto, unfolding(crate::specs::TaskTexts::line_html))]
     fn fmt<W: fmt::Write>(&self, f: &mut fmt::Formatter<W>) -> fmt::Result {
         let side = self.0.side.word();
+        let anchor = Anchor(self.0.event);
         let event = LineEvent(self.0.event);
         let text = Escaped {
             text: &self.0.text,
@@ -49,7 +64,7 @@ impl fmt::Display for LineRow<'_> {
         };
         write!(
             f,
-            "<li class=\"{side}\"><span class=\"side-word\">{side}</span> <span class=\"event\">{event}</span> <code>{text}</code></li>\n"
+            "<li class=\"{side}\"{anchor}><span class=\"side-word\">{side}</span> <span class=\"event\">{event}</span> <code>{text}</code></li>\n"
         )
     }
 }

@@ -3,7 +3,7 @@
 ghost use Rattle.std.specs.Prelude.{OnOk};
 ghost use Rattle.std.specs.Io.KnownBytes.{Appends};
 ghost use Rattle.wh_html.specs.Html.{bytes};
-ghost use Rattle.wh_timeline.specs.Views.{IsAxisOf};
+ghost use Rattle.wh_html.specs.Views.{IsAxisOf};
 ghost use Rattle.wh_page.specs.Pages.{body_html, end_html};
 
 use crate::frame::Frame;
@@ -11,7 +11,7 @@ use crate::table::ThingTable;
 use crate::tasks::{Notes, Tasks};
 use std::io;
 use std::io::Write;
-use wh_timeline::{Axis, Page, Picture, shown_lanes, shown_tasks};
+use wh_html::{Axis, Page, Picture, shown_tasks};
 
 /// Writes a page, but for its end, with its times at the stops of an axis.
 #[tactic(auto, unfolding(crate::specs::Pages::body_html))]
@@ -21,18 +21,18 @@ fn write_parts<W: Write>(page: &Page, axis: &Axis, writer: &mut W) -> io::Result
 {
     let frame = Frame(page);
     let notes = Notes(page.notes.get());
-    let things = page.lanes.get().len();
     let picture = Picture {
         fault: page.fault,
         stops: axis.stops.get(),
-        lanes: shown_lanes(page),
-        total: things,
+        lanes: page.lanes.get(),
+        rows: page.rows,
+        total: page.things,
         tasks: shown_tasks(page),
     };
     let table = ThingTable {
         fault: page.fault,
-        lanes: shown_lanes(page),
-        total: things,
+        lanes: page.lanes.get(),
+        total: page.things,
     };
     let tasks = Tasks {
         tasks: shown_tasks(page),

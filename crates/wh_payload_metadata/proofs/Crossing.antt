@@ -1,7 +1,8 @@
 -- Calls that keep what they bring may be shared by threads where the calls below them may.
 use denote.RattleType.{RattleType}
 use denote.Ref.{NamedLft, ShrRef}
-use denote.Struct.Field.{Field, row_field}
+use denote.Struct.Field.{row_field}
+use denote.Struct.Field as denoted
 use denote.Hole.{as_row}
 use denote.Param.Send.{IsSend, IsSync, shr_sync, sendable}
 use denote.Param.SendFields.{declared_send, declared_sync, as_row_send, as_row_sync}
@@ -9,7 +10,6 @@ use Rattle.std.proofs.Crossing as heap
 use Rattle.std.proofs.MapsCrossing as maps
 use Rattle.std.proofs.hash.BuildHasherDefault.TheSendSync as build
 use Rattle.std.proofs.hash.FoldHasher.TheSendSync as fold
-use Rattle.std.proofs.option.Option.TheSendSync as option
 use Rattle.std.proofs.string.String.TheSendSync as string
 use Rattle.std.proofs.sync.Mutex.TheSendSync as mutex
 use Rattle.std.proofs.sync.atomic.AtomicBool.TheSendSync as atomic_bool
@@ -24,9 +24,10 @@ use Rattle.std.specs.contracts.impls.StringPartialOrd.TheImpl as compared
 use Rattle.std.specs.contracts.collections.BTreeMap as BTreeMap
 use Rattle.std.specs.contracts.hash.BuildHasherDefault as Build
 use Rattle.std.specs.contracts.hash.FoldHasher as Fold
-use Rattle.std.specs.contracts.option.Option as Option
 use Rattle.std.specs.contracts.string.String as String
 use Rattle.serde_json.specs.contracts.value.Value as Value
+use Rattle.wh_payload_metadata.specs.contracts.header.Field as Field
+use Rattle.wh_payload_metadata.specs.contracts.header.Header as Header
 use Rattle.wh_payload_metadata.specs.contracts.seen.SeenPayloads as SeenPayloads
 use Rattle.wh_payload_metadata.specs.contracts.kept.KeptRuns as KeptRuns
 use Rattle.wh_payload_metadata.specs.contracts.open_tasks.OpenTasks as OpenTasks
@@ -38,7 +39,7 @@ text = String.the_row Global.the_row ghosts
 abbrev hasher : RattleType
 hasher = Build.the_row Fold.the_row
 
-abbrev map_field : RattleType → Field
+abbrev map_field : RattleType → denoted.Field
 map_field V = BTreeMap.the_field text V Global.the_row
     (ordered.ghosts Global.the_row ghosts ordered.no_dict ordered.no_dict)
     (equal.ghosts Global.the_row ghosts equal.no_dict equal.no_dict)
@@ -60,11 +61,14 @@ Value-send : IsSend Value.the_row
 Value-send = as_row_send Value.the_field (value.send-Value (search sendable) number.the_field_send
     (string.the_field_send Global.the_row ghosts heap.send heap.frees) heap.Vec-send map_send)
 
+Field-send : IsSend Field.the_row
+Field-send = declared_send Field.the_type (search sendable, (Value-send, tt))
+
+Header-send : IsSend Header.the_row
+Header-send = declared_send Header.the_type (map_send Field.the_row Field-send, tt)
+
 SeenPayloads-send : IsSend SeenPayloads.the_row
-SeenPayloads-send = declared_send SeenPayloads.the_type (
-  map_send Value.the_row Value-send,
-  (as_row_send (Option.the_field Value.the_row) (option.the_field_send Value.the_row Value-send), tt),
-)
+SeenPayloads-send = declared_send SeenPayloads.the_type (map_send Value.the_row Value-send, (Header-send, tt))
 
 KeptRuns-send : IsSend KeptRuns.the_row
 KeptRuns-send = declared_send KeptRuns.the_type (

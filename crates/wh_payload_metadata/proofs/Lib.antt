@@ -5,3 +5,4 @@ pub mod Reaching
 pub mod Crossing
 pub mod Lookups
 pub mod Nothing
+pub mod Setting

@@ -5,7 +5,7 @@ use Rattle.std.specs.Cmp.Lexicographic.{slice_cmp}
 use Rattle.std.specs.Ordering.{match_ordering}
 use Rattle.serde_json.specs.Data.{Data, Members, no_members, member, put}
 use Rattle.wh_payload_metadata.specs.Payloads.{payloads_of, data_of, metadata_of, have_more}
-use Rattle.wh_payload_metadata.specs.Seen.{noted_metadata, noted, all_noted, header_after, is_nothing}
+use Rattle.wh_payload_metadata.specs.Seen.{noted_metadata, noted, all_noted, is_nothing}
 use Rattle.wh_payload_metadata.specs.Kept.{metadata_after}
 
 abbrev has_member : Members → Bool
@@ -53,7 +53,7 @@ quiet (p ∷ ps) seen none = quiet_at (metadata_of p) (data_of p) ps seen (quiet
 pub quiet_after : (came : Data) (seen : Members) → metadata_after came no_members ≡ no_members → metadata_after came seen ≡ seen
 quiet_after came seen none = quiet (payloads_of came) seen none
 
--- where nothing was seen after a header came, none came
-pub no_header : (came before : Option Data) (metadata : Members) → is_nothing metadata (header_after came None) ≡ true → header_after came before ≡ before
-no_header None before metadata nothing = refl
-no_header (Some d) before metadata nothing = absurd (false≢true nothing)
+-- where nothing was seen there is no header
+pub nothing_header : (metadata : Members) (header : Option Data) → is_nothing metadata header ≡ true → None ≡ header
+nothing_header metadata None nothing = refl
+nothing_header metadata (Some d) nothing = absurd (false≢true nothing)

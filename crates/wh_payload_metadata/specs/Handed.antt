@@ -1,4 +1,4 @@
--- What goes on with a request: the metadata of its payloads that were seen, and the header of the run's start.
+-- What goes on with a request: the metadata of its payloads that were seen, and the header of the run.
 use Rattle.std.specs.Prelude.{ℕ, List, Bool, ◌||◌, bytes_eq, codes, Option, Some, None, if◌then◌else◌}
 use Rattle.serde_json.specs.Data.{Data, null, boolean, number, string, array, object, Items, no_items, item, Members, no_members, member, put}
 use Rattle.serde_json.specs.Find.{get_member}

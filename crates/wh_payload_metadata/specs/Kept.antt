@@ -6,7 +6,8 @@ use Rattle.std.specs.Map.{lookup}
 use Rattle.serde_json.specs.Data.{Data, Members, no_members}
 use Rattle.wh_payload_metadata.specs.declared.seen.SeenPayloads.{SeenPayloads}
 use Rattle.wh_payload_metadata.specs.Payloads.{payloads_of}
-use Rattle.wh_payload_metadata.specs.Seen.{all_noted, metadata_seen, header_seen}
+use Rattle.wh_payload_metadata.specs.Header.{Fields, no_fields}
+use Rattle.wh_payload_metadata.specs.Seen.{all_noted, metadata_seen, fields_seen, header_seen}
 use Rattle.wh_payload_metadata.specs.Handed.{handed_on}
 use Rattle.wh_payload_metadata.specs.declared.kept.KeptRuns.{KeptRuns}
 use Rattle.wh_payload_metadata.specs.declared.open_tasks.OpenTasks.{OpenTasks}
@@ -23,9 +24,9 @@ abbrev pub metadata_in : Option SeenPayloads → Members
 metadata_in None = no_members
 metadata_in (Some seen) = metadata_seen seen
 
-abbrev pub header_in : Option SeenPayloads → Option Data
-header_in None = None
-header_in (Some seen) = header_seen seen
+abbrev pub fields_in : Option SeenPayloads → Fields
+fields_in None = no_fields
+fields_in (Some seen) = fields_seen seen
 
 -- the name under which it is kept what came with a task, by the token of the task, if it is open
 abbrev pub place_of : OpenTasks → List ℕ → Option (List ℕ)
@@ -41,9 +42,9 @@ leads_to place (task ∷ rest) = bytes_eq (string_bytes task.1) place || leads_t
 abbrev pub kept_metadata : KeptRuns → List ℕ → Members
 kept_metadata kept name = metadata_in (kept_run kept name)
 
--- the header of the start of a run, if it was seen
-abbrev pub kept_header : KeptRuns → List ℕ → Option Data
-kept_header kept name = header_in (kept_run kept name)
+-- the fields of the header that were seen of a run
+abbrev pub kept_fields : KeptRuns → List ℕ → Fields
+kept_fields kept name = fields_in (kept_run kept name)
 
 -- the metadata of a run after something came, all of whose payloads are noted
 abbrev pub metadata_after : Data → Members → Members

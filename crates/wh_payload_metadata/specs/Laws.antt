@@ -1,10 +1,12 @@
 -- What holds of each request that is handed on.
-use Rattle.std.specs.Prelude.{◌≡◌, ◌≢◌, ℕ, List, [], ◌∷◌, ◌++◌, map, IsSome, Option, Some, None, codes, true, if◌then◌else◌}
+use Rattle.std.specs.Prelude.{◌≡◌, ◌≢◌, ◌<◌, ◌≤◌, ℕ, List, [], ◌∷◌, ◌++◌, map, IsSome, Option, Some, None, option_map, codes, true, if◌then◌else◌}
 use Rattle.std.specs.List.{AllByRecursion}
 use Rattle.serde_json.specs.Data.{Data, null, boolean, number, string, array, object, Items, no_items, item, Members, no_members, member}
 use Rattle.serde_json.specs.Find.{as_object, get_member}
 use Rattle.wh_payload_metadata.specs.Payloads.{is_payloads, data_of, metadata_of, encoding_in, have_more, payloads_of}
-use Rattle.wh_payload_metadata.specs.Seen.{all_noted}
+use Rattle.wh_payload_metadata.specs.Header.{brought, number_in, no_fields, fields_after, value_in}
+use Rattle.wh_payload_metadata.specs.Seen.{all_noted, fields_seen, header_seen}
+use Rattle.wh_payload_metadata.specs.declared.seen.SeenPayloads.{SeenPayloads}
 use Rattle.wh_payload_metadata.specs.Handed.{with_member, with_metadata, takes_header, handed_on}
 
 -- a payload that has all of these metadata was seen, and none with its data came after it; one with its data and its encoding goes out with all of them
@@ -50,7 +52,26 @@ abbrev mutual
       (if is_payloads name then [] else (if takes_header name then header_in d else headers_of d))
       ++ headers_of_members rest
 
--- each command of a request that takes a header goes out with that of the run's start
+-- of the events that came, however often and in whatever order, the last one in the history that brings a field sets it
+abbrev pub LastEventSets : Type 0
+LastEventSets =
+    (name : List ℕ) (before after : List Data) (event value : Data)
+    → brought name event ≡ Some value
+    → AllByRecursion (λ other. IsSome (brought name other) → number_in other ≤ number_in event) before
+    → AllByRecursion (λ other. IsSome (brought name other) → number_in other < number_in event) after
+    → fields_after (before ++ event ∷ after) no_fields name ≡ Some (number_in event, value)
+
+-- a field that no event brings is not set
+abbrev pub NothingElseSets : Type 0
+NothingElseSets =
+    (name : List ℕ) (events : List Data) → AllByRecursion (λ event. brought name event ≡ None) events → fields_after events no_fields name ≡ None
+
+-- the header that goes out has each field that is set, with its value, and no other
+abbrev pub EachFieldGoesOn : Type 0
+EachFieldGoesOn =
+    (seen : SeenPayloads) (name : List ℕ) → value_in name (header_seen seen) ≡ option_map (λ kept. kept.1) (fields_seen seen name)
+
+-- each command of a request that takes a header goes out with that of the run
 abbrev pub HeaderGoesOn : Type 0
 HeaderGoesOn =
     (seen : Members) (header request : Data)

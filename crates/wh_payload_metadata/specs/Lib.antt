@@ -1,4 +1,5 @@
 pub mod Payloads
+pub mod Header
 pub mod Seen
 pub mod Handed
 pub mod Laws

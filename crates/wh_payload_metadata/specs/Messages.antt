@@ -25,6 +25,14 @@ abbrev pub polled_place : List ℕ → Data → List ℕ
 polled_place method result = if polls_activities method then token_of result
     else text_of (at_path (codes "workflowExecution" ∷ codes "runId" ∷ []) (Some result))
 
+-- the history that a poll brought with a workflow task, or a call for a page of it
+abbrev pub history_in : Data → Option Data
+history_in brought = field (codes "history") (Some brought)
+
+-- the queries that a poll brought with a workflow task
+abbrev pub queries_in : Data → Option Data
+queries_in task = field (codes "queries") (Some task)
+
 -- the id of the run whose history a call asks for
 abbrev pub fetched_run : Data → List ℕ
 fetched_run params = text_of (at_path (codes "execution" ∷ codes "runId" ∷ []) (Some params))

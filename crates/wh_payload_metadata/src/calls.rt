@@ -3,7 +3,7 @@
 use crate::kept::{KeptRuns, note_first};
 use crate::messages::{
     answers_query, beats, brings_workflow_task, closes_run, ends_place, fetched_run, fetches,
-    is_query, polled_place, responds, responds_to_activity, token_of,
+    history_in, is_query, polled_place, queries_in, responds, responds_to_activity, token_of,
 };
 use crate::open_tasks::OpenTasks;
 use serde_json::Value;
@@ -17,13 +17,14 @@ use wh_rpc::{CallFault, CallResult, Caller, Response};
 const SPARE_RUNS: usize = 1_000;
 
 /// Calls over other calls. They note the metadata of the payloads that polls and pages of history
-/// bring, and the header of each run's start, and put them into the requests that answer tasks of
-/// the same run. A call for which there is no memory to do so fails with `OutOfMemory`: a payload
-/// without its metadata may be one that nobody can read.
+/// bring, and the header of each run, which its start and its signals set, and put them into the
+/// requests that answer tasks of the same run. A call for which there is no memory to do so fails
+/// with `OutOfMemory`: a payload without its metadata may be one that nobody can read.
 ///
-/// What comes with workflow tasks is in `runs`, by the id of the run: those whose tasks came last, and
-/// nothing else takes their room. What comes with an activity task, by its token, or for queries that
-/// came alone, by the id of their run, is in `until_answered`, and is forgotten with the answer. What
+/// The history that comes with workflow tasks is in `runs`, by the id of the run: those whose tasks
+/// came last, and nothing else takes their room. What comes with an activity task, the queries that
+/// come with a workflow task, both by the token of the task, and what comes for queries that came
+/// alone, by the id of their run, is in `until_answered`, and is forgotten with the answer. What
 /// comes is noted without a lock. As long as there was nothing to keep, neither of both is locked.
 #[derive(Drop)]
 pub struct KeepingCalls<'a, C> {
@@ -80,14 +81,20 @@ impl<'a, C: Caller> KeepingCalls<'a, C> {
         Ok(())
     }
 
-    /// A request of a task, with what is kept at its place. Of a query that came alone that is what
-    /// came for it, and what came with workflow tasks of its run.
-    fn hand_on<Q: Wait>(&self, rt: &Q, place: &str, params: Value) -> Result<Value, AllocError> {
+    /// A request of a task or a query, with what is kept under a name until it is answered, and
+    /// with what came with workflow tasks of a run.
+    fn hand_on<Q: Wait>(
+        &self,
+        rt: &Q,
+        name: &str,
+        run: &str,
+        params: Value,
+    ) -> Result<Value, AllocError> {
         if !self.has_kept() {
             return Ok(params);
         }
-        let params = self.until_answered.lock(rt).hand_on(place, params)?;
-        self.runs.lock(rt).hand_on(place, params)
+        let params = self.until_answered.lock(rt).hand_on(name, params)?;
+        self.runs.lock(rt).hand_on(run, params)
     }
 
     /// Forgets what is kept at a place.
@@ -122,17 +129,34 @@ impl<'a, C: Caller> KeepingCalls<'a, C> {
         Ok(())
     }
 
+    /// Keeps the history that came of a run with a workflow task or a page, if there is one.
+    fn keep_history<Q: Wait>(&self, rt: &Q, run: &str, brought: &Value) -> Result<(), AllocError> {
+        match history_in(brought) {
+            Some(history) => self.keep(rt, &self.runs, run, history),
+            None => Ok(()),
+        }
+    }
+
+    /// Keeps the queries that came with a workflow task, by its token, if there are any: their
+    /// results may hand on their arguments.
+    fn keep_queries<Q: Wait>(&self, rt: &Q, token: &str, task: &Value) -> Result<(), AllocError> {
+        match queries_in(task) {
+            Some(queries) => self.keep(rt, &self.until_answered, token, queries),
+            None => Ok(()),
+        }
+    }
+
     /// Keeps a page of history for what it was asked for: the queries of the run that came alone, a
     /// workflow task of it, or both.
     fn keep_events<Q: Wait>(&self, rt: &Q, run: &str, page: &Value) -> Result<(), AllocError> {
         let for_query = self.queries.lock(rt).has(run);
         if !for_query {
-            return self.keep(rt, &self.runs, run, page);
+            return self.keep_history(rt, run, page);
         }
         self.keep(rt, &self.until_answered, run, page)?;
         let for_task = self.tasks.lock(rt).has(run);
         if for_task {
-            self.keep(rt, &self.runs, run, page)?;
+            self.keep_history(rt, run, page)?;
         }
         Ok(())
     }
@@ -163,7 +187,8 @@ impl<'a, C: Caller> KeepingCalls<'a, C> {
             self.begin(rt, &self.tasks, token, place)?;
         }
         if brings_workflow_task(method, task) {
-            self.keep(rt, &self.runs, place, task)
+            self.keep_queries(rt, token, task)?;
+            self.keep_history(rt, place, task)
         } else {
             self.keep(rt, &self.until_answered, place, task)
         }
@@ -213,10 +238,11 @@ impl<'a, C: Caller> KeepingCalls<'a, C> {
         }
     }
 
-    /// Forgets a task.
+    /// Forgets a task, and what is kept under its token.
     fn end<Q: Wait>(&self, rt: &Q, token: &str) {
         let place = self.tasks.lock(rt).end(token);
         drop(place);
+        self.forget(rt, &self.until_answered, token);
     }
 
     /// Answers a query that came alone with what is kept for it, which is then forgotten, unless
@@ -229,7 +255,7 @@ impl<'a, C: Caller> KeepingCalls<'a, C> {
         params: Value,
     ) -> Result<(u64, CallResult), CallFault> {
         let token = String::from_str(self.calls.allocator(), token_of(&params))?;
-        let handed = self.hand_on(rt, run, params);
+        let handed = self.hand_on(rt, run, run, params);
         self.end_query(rt, token.as_str(), run);
         self.calls.call(rt, method, handed?)
     }
@@ -246,9 +272,10 @@ impl<'a, C: Caller> KeepingCalls<'a, C> {
         drop(place);
     }
 
-    /// Makes a call with what is kept at a place, which is forgotten before the call if nothing more
-    /// comes of it: the next task of the run may come before the response. The task is forgotten
-    /// once the server took its answer, since it may be answered a second time until then.
+    /// Makes a call with what is kept under the token of its task and at its place. What is kept at
+    /// the place is forgotten before the call if nothing more comes of it: the next task of the run
+    /// may come before the response. The task is forgotten once the server took its answer, since
+    /// it may be answered a second time until then.
     fn call_from<Q: Wait>(
         &self,
         rt: &Q,
@@ -258,7 +285,7 @@ impl<'a, C: Caller> KeepingCalls<'a, C> {
     ) -> Result<(u64, CallResult), CallFault> {
         let token = String::from_str(self.calls.allocator(), token_of(&params))?;
         let closes = closes_run(&params);
-        let params = self.hand_on(rt, place, params)?;
+        let params = self.hand_on(rt, token.as_str(), place, params)?;
         self.end_place(rt, method, place);
         let response = self.calls.call(rt, method, params);
         let is_taken = is_acknowledged(&response);

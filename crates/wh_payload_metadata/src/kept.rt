@@ -4,8 +4,9 @@ ghost use Rattle.std.specs.Prelude.{◌≡◌, IfOk, None, OnOk, bytes_eq, strin
 ghost use Rattle.std.specs.Map.{remove_entry};
 ghost use Rattle.serde_json.specs.Data.{no_members};
 ghost use Rattle.serde_json.specs.View.{view};
-ghost use Rattle.wh_payload_metadata.specs.Seen.{metadata_seen, header_seen, header_after, started_header};
-ghost use Rattle.wh_payload_metadata.specs.Kept.{kept_run, kept_metadata, kept_header, metadata_after, handed_by, OthersStay};
+ghost use Rattle.wh_payload_metadata.specs.Header.{events_in, no_fields, fields_after};
+ghost use Rattle.wh_payload_metadata.specs.Seen.{metadata_seen, fields_seen};
+ghost use Rattle.wh_payload_metadata.specs.Kept.{kept_run, kept_metadata, kept_fields, metadata_after, handed_by, OthersStay};
 
 use crate::seen::SeenPayloads;
 use lru::LruCache;
@@ -28,17 +29,17 @@ pub(crate) struct KeptRuns {
 fn note(alloc: Global, seen: &mut SeenPayloads, came: &Value) -> Result<(), AllocError>
     ensures metadata { OnOk result (metadata_seen seen.new
         ≡ metadata_after (view came.now) (metadata_seen seen.old)) }
-    ensures header { OnOk result (header_seen seen.new
-        ≡ header_after (started_header (view came.now)) (header_seen seen.old)) }
+    ensures header { OnOk result (fields_seen seen.new
+        ≡ fields_after (events_in (view came.now)) (fields_seen seen.old)) }
 {
-    seen.keep_header(came)?;
+    seen.keep_header(alloc, came)?;
     seen.keep_payloads(alloc, came)
 }
 
 /// Notes something that came of a run, as if nothing had come of it before.
 pub(crate) fn note_first(alloc: Global, came: &Value) -> Result<SeenPayloads, AllocError>
     ensures metadata { IfOk result (λ seen. metadata_seen seen ≡ metadata_after (view came.now) no_members) }
-    ensures header { IfOk result (λ seen. header_seen seen ≡ header_after (started_header (view came.now)) None) }
+    ensures header { IfOk result (λ seen. fields_seen seen ≡ fields_after (events_in (view came.now)) no_fields) }
 {
     let mut seen = SeenPayloads::new(alloc);
     note(alloc, &mut seen, came)?;
@@ -57,7 +58,7 @@ impl KeptRuns {
     /// Takes out what was seen of a run.
     fn take(&mut self, name: &str) -> SeenPayloads
         ensures metadata { metadata_seen result ≡ kept_metadata self.old name.now }
-        ensures header { header_seen result ≡ kept_header self.old name.now }
+        ensures header { fields_seen result ≡ kept_fields self.old name.now }
         ensures others { OthersStay self.old self.new name.now None }
     {
         match self.runs.pop(name) {
@@ -69,7 +70,7 @@ impl KeptRuns {
     /// Puts in what was seen of a run. Returns the run that there is no room for.
     fn put(&mut self, name: &str, seen: SeenPayloads) -> Result<Option<KeptRun>, AllocError>
         ensures metadata { OnOk result (kept_metadata self.new name.now ≡ metadata_seen seen) }
-        ensures header { OnOk result (kept_header self.new name.now ≡ header_seen seen) }
+        ensures header { OnOk result (kept_fields self.new name.now ≡ fields_seen seen) }
         ensures others { IfOk result (λ displaced. OthersStay self.old self.new name.now displaced) }
     {
         // Its contract says that there is no more than there is room for.
@@ -83,8 +84,8 @@ impl KeptRuns {
     fn keep_next(&mut self, name: &str, came: &Value) -> Result<Option<KeptRun>, AllocError>
         ensures metadata { OnOk result (kept_metadata self.new name.now
             ≡ metadata_after (view came.now) (kept_metadata self.old name.now)) }
-        ensures header { OnOk result (kept_header self.new name.now
-            ≡ header_after (started_header (view came.now)) (kept_header self.old name.now)) }
+        ensures header { OnOk result (kept_fields self.new name.now
+            ≡ fields_after (events_in (view came.now)) (kept_fields self.old name.now)) }
         ensures others { IfOk result (λ displaced. OthersStay self.old self.new name.now displaced) }
     {
         let mut seen = self.take(name);
@@ -103,11 +104,11 @@ impl KeptRuns {
         noted: SeenPayloads,
     ) -> Result<Option<KeptRun>, AllocError>
         requires metadata { metadata_seen noted ≡ metadata_after (view came.now) no_members }
-        requires header { header_seen noted ≡ header_after (started_header (view came.now)) None }
+        requires header { fields_seen noted ≡ fields_after (events_in (view came.now)) no_fields }
         ensures metadata { OnOk result (kept_metadata self.new name.now
             ≡ metadata_after (view came.now) (kept_metadata self.old name.now)) }
-        ensures header { OnOk result (kept_header self.new name.now
-            ≡ header_after (started_header (view came.now)) (kept_header self.old name.now)) }
+        ensures header { OnOk result (kept_fields self.new name.now
+            ≡ fields_after (events_in (view came.now)) (kept_fields self.old name.now)) }
         ensures others { IfOk result (λ displaced. OthersStay self.old self.new name.now displaced) }
     {
         if noted.is_empty() {

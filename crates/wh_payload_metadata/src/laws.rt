@@ -2,6 +2,7 @@
 //! nothing.
 
 ghost use Rattle.wh_payload_metadata.specs.Laws.{EachPayloadGoesOn, HeaderGoesOn, HeaderGoesOnLast, MetadataGoOn, NothingElseChanges};
+ghost use Rattle.wh_payload_metadata.specs.Laws.{LastEventSets, NothingElseSets, EachFieldGoesOn};
 
 /// A payload that was seen, and goes out with the same data and encoding, has all the metadata that
 /// it came with, unless metadata came later with the same data.
@@ -15,8 +16,18 @@ pub fn each_payload_goes_on()
     ensures { EachPayloadGoesOn }
 {}
 
-/// Each command of a request that takes a header has that of the run's start, and it changes no
-/// payload: what is handed on with it is what is handed on without it, but for these headers.
+/// A field of a run's header has the value that the last event in the history gives it, of the
+/// start and the signals that came, however often and in whatever order they came. A field that
+/// none of them brings is not set. The header that goes out has the fields that are set, and no
+/// other.
+pub fn last_fields_go_on()
+    ensures last { LastEventSets }
+    ensures nothing_else { NothingElseSets }
+    ensures each { EachFieldGoesOn }
+{}
+
+/// Each command of a request that takes a header has that of the run, and it changes no payload:
+/// what is handed on with it is what is handed on without it, but for these headers.
 pub fn header_goes_on()
     ensures header { HeaderGoesOn }
     ensures last { HeaderGoesOnLast }

@@ -1,5 +1,5 @@
-//! Metadata of payloads beside their encoding, and the header of a run's start, for live work: calls
-//! keep them, and hand them on.
+//! Metadata of payloads beside their encoding, and the headers of runs, for live work: calls keep
+//! them, and hand them on.
 //!
 //! What replay compares of a payload is its encoding and its data, so workflow code is given no
 //! more of it. A codec adds metadata, such as the id of the key that encrypts the data, and without

@@ -3,6 +3,7 @@
 ghost use Rattle.std.specs.Prelude.{◌≡◌, bytes_eq, codes, map, option_and_then, option_map};
 ghost use Rattle.serde_json.specs.View.{view};
 ghost use Rattle.wh_payload_metadata.specs.Messages.{token_of, is_query, polls_activities, brings_workflow_task, polled_place, fetched_run, fetches};
+ghost use Rattle.wh_payload_metadata.specs.Messages.{history_in, queries_in};
 ghost use Rattle.wh_payload_metadata.specs.Messages.{responds, beats, responds_to_activity, ends_place, closes, closes_run, last};
 ghost use Rattle.wh_json.specs.Fields.{list_in};
 
@@ -49,6 +50,20 @@ pub(crate) fn polled_place<'v>(method: &str, polled: &'v Value) -> &'v str
     } else {
         text_of(at_path(Some(polled), &["workflowExecution", "runId"]))
     }
+}
+
+/// The history that a poll brought with a workflow task, or a call for a page of it.
+pub(crate) fn history_in(brought: &Value) -> Option<&Value>
+    ensures { option_map (λ v. view v.now) result ≡ history_in (view brought.now) }
+{
+    field(Some(brought), "history")
+}
+
+/// The queries that a poll brought with a workflow task.
+pub(crate) fn queries_in(task: &Value) -> Option<&Value>
+    ensures { option_map (λ v. view v.now) result ≡ queries_in (view task.now) }
+{
+    field(Some(task), "queries")
 }
 
 /// The id of the run whose history a call asks for.
@@ -133,7 +148,7 @@ fn last_of<'v>(values: Option<&'v [Value]>) -> Option<&'v Value>
 }
 
 /// The values of a list.
-fn values_of<'v>(value: Option<&'v Value>) -> Option<&'v [Value]>
+pub(crate) fn values_of<'v>(value: Option<&'v Value>) -> Option<&'v [Value]>
     ensures { option_map (λ values. map view values.now) result
         ≡ option_and_then list_in (option_map (λ v. view v.now) value.entry) }
 {

@@ -15,9 +15,9 @@ use Rattle.wh_workflow.specs.Names.{command_phrase}
 use Rattle.wh_tester.specs.Report.{shown}
 use Rattle.wh_tester.specs.Json.{escaped, object, text_member, verdict_members}
 use Rattle.wh_tester.specs.declared.line.Line.{Line}
-use Rattle.wh_explain.specs.declared.explanation.RecordedEvent.{RecordedEvent}
-use Rattle.wh_explain.specs.declared.explanation.Pairing.{Pairing}
-use Rattle.wh_explain.specs.declared.explanation.Pairing.TheVariants.{Alike, Different, CommandMissing, CommandExtra}
+use Rattle.wh_explained_tasks.specs.declared.RecordedEvent.{RecordedEvent}
+use Rattle.wh_explained_tasks.specs.declared.Pairing.{Pairing}
+use Rattle.wh_explained_tasks.specs.declared.Pairing.TheVariants.{Alike, Different, CommandMissing, CommandExtra}
 use Rattle.wh_phrases.specs.Phrases.{event_phrase}
 use Rattle.wh_phrases.specs.Times.{time_text}
 

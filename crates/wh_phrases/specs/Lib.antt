@@ -6,5 +6,4 @@ pub mod Private
 pub mod ValueSides
 pub mod Values
 pub mod Gathered
-pub mod Checked
 pub mod Texts

@@ -6,7 +6,7 @@ use Rattle.wh_events.specs.declared.phrase.Detail.TheVariants.{Nothing, Time, Se
 use Rattle.wh_events.specs.Kinds.{kind_phrase}
 use Rattle.wh_events.specs.Phrases.{Phrase}
 use Rattle.wh_tester.specs.Report.{shown}
-use Rattle.wh_explain.specs.declared.explanation.RecordedEvent.{RecordedEvent}
+use Rattle.wh_explained_tasks.specs.declared.RecordedEvent.{RecordedEvent}
 use Rattle.wh_phrases.specs.Times.{time_text}
 
 -- the phrase of a recorded event

@@ -1,3 +1,2 @@
 -- Definitions that no contract of a public item cites: they are for private functions and private fields.
 pub mod Json
-pub mod Found

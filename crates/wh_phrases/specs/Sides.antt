@@ -2,9 +2,9 @@
 use Rattle.std.specs.Prelude.{List, ℕ, ◌++◌, codes, decimal}
 use Rattle.wh_workflow.specs.declared.command.Command.{Command}
 use Rattle.wh_workflow.specs.Names.{command_phrase}
-use Rattle.wh_explain.specs.declared.explanation.RecordedEvent.{RecordedEvent}
-use Rattle.wh_explain.specs.declared.explanation.Pairing.{Pairing}
-use Rattle.wh_explain.specs.declared.explanation.Pairing.TheVariants.{Alike, Different, CommandMissing, CommandExtra}
+use Rattle.wh_explained_tasks.specs.declared.RecordedEvent.{RecordedEvent}
+use Rattle.wh_explained_tasks.specs.declared.Pairing.{Pairing}
+use Rattle.wh_explained_tasks.specs.declared.Pairing.TheVariants.{Alike, Different, CommandMissing, CommandExtra}
 use Rattle.wh_phrases.specs.Phrases.{phrase_text, event_phrase}
 
 -- `NUMBER EVENT`

@@ -9,7 +9,7 @@ use crate::comparing::{OtherValue, value_of};
 use serde_json::Value;
 use std::alloc::Global;
 use wh_events::{EventNo, OutOfMemory};
-use wh_explain::{Ending, ExplainedTask, Pairing};
+use wh_explained_tasks::{Ending, ExplainedTask, Pairing};
 use wh_json::attributes_in;
 
 /// The attributes of the event of a number.
@@ -76,8 +76,10 @@ fn add_task(
     }
 }
 
-/// The values that differ of tasks.
-pub(crate) fn values_in(
+/// Returns the values that differ of tasks, from the members of their history: inputs and results by
+/// the encodings and the bytes of their payloads, durations of timers and messages of failures by
+/// their texts. `OutOfMemory` if there was no memory for them.
+pub fn values_in(
     alloc: Global,
     members: &[Value],
     tasks: &[ExplainedTask],

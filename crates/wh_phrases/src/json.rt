@@ -13,7 +13,7 @@ use crate::phrase::event_phrase;
 use crate::times::TimeText;
 use std::fmt;
 use wh_events::{Detail, Phrase};
-use wh_explain::{Pairing, RecordedEvent};
+use wh_explained_tasks::{Pairing, RecordedEvent};
 use wh_tester::EscapedName;
 use wh_workflow::{Command, Job};
 

@@ -3,7 +3,6 @@
 //! messages of failures. Replay compares none of these values.
 #![tactic(auto)]
 
-mod checking;
 mod comparing;
 mod gathering;
 mod json;
@@ -15,8 +14,8 @@ mod texts;
 mod times;
 mod value_sides;
 
-pub use checking::check_values;
 pub use comparing::{OtherValue, ValueKind};
+pub use gathering::values_in;
 pub use json::{CommandJson, DifferenceMembers, JobJson, PairingMembers};
 pub use phrase::{PhraseText, event_phrase};
 pub use sides::{SendsText, SidesText};

@@ -7,7 +7,7 @@ ghost use Rattle.wh_phrases.specs.Phrases.{event_phrase, word_text, detail_text,
 use crate::times::TimeText;
 use std::fmt;
 use wh_events::{Detail, Phrase};
-use wh_explain::RecordedEvent;
+use wh_explained_tasks::RecordedEvent;
 use wh_tester::Shown;
 
 /// Returns the phrase of a recorded event.

@@ -6,7 +6,7 @@ ghost use Rattle.wh_phrases.specs.Sides.{both_text, event_text, sends_text, side
 
 use crate::phrase::{PhraseText, event_phrase};
 use std::fmt;
-use wh_explain::{Pairing, RecordedEvent};
+use wh_explained_tasks::{Pairing, RecordedEvent};
 use wh_workflow::Command;
 
 /// The number and the phrase of a recorded event.

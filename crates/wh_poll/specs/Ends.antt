@@ -5,7 +5,7 @@ use Rattle.std.specs.declared.alloc.Global.{Global}
 use Rattle.wh_workflow.specs.Law.{Program}
 use Rattle.wh_ledger.specs.declared.Shares.{Shares}
 use Rattle.wh_ledger.specs.Shares.{no_shares, sums_of}
-use Rattle.wh_host.specs.declared.config.Config.{Config}
+use Rattle.wh_slots.specs.declared.sizes.Config.{Config}
 use Rattle.wh_host.specs.Machine.{totals_of}
 use Rattle.wh_tasks.specs.Source.{Answers, Answerable, Delivers, MayFetch, KeepsSource, RoseIfFailed, SameMay}
 use Rattle.wh_poll.specs.declared.hosting.HostEnd.{HostEnd}

@@ -2,7 +2,8 @@
 ghost use Rattle.std.specs.Prelude.{◌≡◌, ◌+◌, ◌↔◌, IfOk, Err, map, vec_capacity, vec_len};
 ghost use denote.Param.Send.{IsSend};
 ghost use Rattle.wh_ledger.specs.Shares.{sums_of};
-ghost use Rattle.wh_host.specs.Machine.{IsConfig, totals_of};
+ghost use Rattle.wh_host.specs.Machine.{totals_of};
+ghost use Rattle.wh_slots.specs.Sizes.{IsConfig};
 ghost use Rattle.wh_poll.specs.Ends.{AreEnds, IsHostEnd};
 
 use crate::observer::Observer;

@@ -1,6 +1,6 @@
 -- A run with a table in its input gives what a run of the table does, with the table added for a new run.
 use Rattle.std.proofs.Common.{◌≡◌, ℕ, true, not, List, [], ◌∷◌, ◌++◌, map, None, Ok, ℤ, refl, ap, ap₂, sym, subst, ◌∙◌}
-use Rattle.std.proofs.lemmas.Bool.{and_parts, and_from}
+use Rattle.std.proofs.lemmas.Bool.{and_parts}
 use Rattle.std.proofs.lemmas.List.{map-append}
 use Rattle.wh_events.specs.declared.event.Payload.{Payload}
 use Rattle.wh_workflow.specs.declared.job.Job.{Job}
@@ -54,17 +54,6 @@ flat_given : {S : Type 0} → (code : Program S) (state : S) (list : List Job)
 flat_given code state [] = refl
 flat_given code state (job ∷ later) = ap (λ l. code.gives state job ++ l) (flat_given code (code.after state job) later)
 
-same_start : (job : Job) → rows.is_start job ≡ laws.is_start job
-same_start (jobs.Start workflow input) = refl
-same_start _ = refl
-
-none_starts : (list : List Job) → goes_on list ≡ true → laws.none_starts list ≡ true
-none_starts [] on = refl
-none_starts (job ∷ later) on =
-    let parts : (not (rows.is_start job) ≡ true) × (goes_on later ≡ true) = and_parts (not (rows.is_start job)) (goes_on later) on in
-    and_from (not (laws.is_start job)) (laws.none_starts later)
-    (subst (λ is. not is ≡ true) (same_start job) parts.0) (none_starts later parts.1)
-
 see_same : (job : Job) → not (rows.is_start job) ≡ true → as_rows_see job ≡ job
 see_same (jobs.Start workflow input) is = cc
 see_same _ is = refl
@@ -94,7 +83,7 @@ module _ (workflow : List ℕ) (input : List Payload) (table : OwnedTable) (is :
   given_as_table state list not_begun = refl
   given_as_table state list (with_start later on) =
       sym (flat_given program state (jobs.Start workflow input ∷ later))
-      ∙ ap flat (laws.follows_its_table state workflow input later table is (none_starts later on))
+      ∙ ap flat (laws.follows_its_table state workflow input later table is on)
       ∙ flat_map (with_table workflow (front input))
       (laws.given_to_each (rows.program (definition table)) (rows.initial (definition table)) (jobs.Start workflow (tail input) ∷ later))
       ∙ ap (map (with_table workflow (front input)))

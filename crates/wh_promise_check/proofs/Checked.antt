@@ -6,14 +6,15 @@ use Rattle.wh_row_rules.specs.Broken.{definition}
 use Rattle.wh_table.specs.Program.{table_in}
 use Rattle.wh_rows.specs.Promises.{PromisesAll}
 use Rattle.wh_table_promises.specs.declared.promise.TablePromise.{TablePromise}
-use Rattle.wh_table_promises.specs.declared.deciding.PromiseVerdict.TheVariants as verdicts
-use Rattle.wh_promise_check.specs.declared.findings.PhraseFinding.{PhraseFinding}
-use Rattle.wh_promise_check.specs.declared.findings.PhraseFinding.TheVariants as outcomes
-use Rattle.wh_promise_check.specs.declared.findings.PromiseFinding.{PromiseFinding}
-use Rattle.wh_promise_check.specs.declared.findings.PromiseFindings.{PromiseFindings}
-use Rattle.wh_promise_check.specs.declared.findings.PromiseFindings.TheVariants as found
+use Rattle.wh_row_rules.specs.declared.promises.PromiseVerdict.TheVariants as verdicts
+use Rattle.wh_row_rules.specs.declared.promises.PhraseFinding.{PhraseFinding}
+use Rattle.wh_row_rules.specs.declared.promises.PhraseFinding.TheVariants as outcomes
+use Rattle.wh_row_rules.specs.declared.promises.PromiseFinding.{PromiseFinding}
+use Rattle.wh_row_rules.specs.declared.promises.PromiseFindings.{PromiseFindings}
+use Rattle.wh_row_rules.specs.declared.promises.PromiseFindings.TheVariants as found
 use Rattle.wh_promise_check.specs.Phrases.{promise_in}
-use Rattle.wh_promise_check.specs.Findings.{phrases_in, IsOutcome, AreFound, AreDecided, is_kept_by, is_kept, all_kept, are_kept}
+use Rattle.wh_promise_check.specs.Findings.{phrases_in, IsOutcome, AreFound, AreDecided}
+use Rattle.wh_row_rules.specs.Promises.{is_kept_by, is_kept, all_kept, are_kept}
 use Rattle.wh_promise_check.specs.BroughtTables.{with_promise, promises_said, promises_by, CheckedTablesKeep}
 use Rattle.wh_promise_check.proofs.Brought.{brought_keep}
 

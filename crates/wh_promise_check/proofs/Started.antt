@@ -17,6 +17,7 @@ use Rattle.wh_workflow.specs.declared.job.Job.TheVariants as jobs
 use Rattle.wh_workflow.specs.Jobs.{start_job, signal_job, outside_job, jobs_by, jobs_of}
 use Rattle.wh_rows.specs.Rows.{is_start as starts_run}
 use Rattle.wh_rows.specs.Courses.{goes_on, begins}
+use Rattle.wh_table.proofs.Starts.{goes_append, signals_go, outside_go}
 use Rattle.wh_replay.specs.Replays.{workflow_kind}
 use Rattle.wh_promise_check.specs.Kept.{all_versions, Interleaved, no_jobs, next_job, input_in}
 
@@ -105,25 +106,6 @@ kind_no_cut _ starts task = cc
 pub no_cut : (event : Event) (rest : List Event) → is_start event ≡ true → is_cut event rest ≡ true → ⊥
 no_cut event rest starts cut = kind_no_cut event.body starts (and_parts (is_task_started event) _ cut).0
 
-pub goes_append : (xs ys : List Job) → goes_on xs ≡ true → goes_on ys ≡ true → goes_on (xs ++ ys) ≡ true
-goes_append [] ys first second = second
-goes_append (x ∷ xs) ys first second =
-    let parts : (not (starts_run x) ≡ true) × (goes_on xs ≡ true) = and_parts (not (starts_run x)) (goes_on xs) first in
-    and_from (not (starts_run x)) (goes_on (xs ++ ys)) parts.0 (goes_append xs ys parts.1 second)
-
-goes_by : (job : EventKind → List Job) → ((kind : EventKind) → goes_on (job kind) ≡ true) → (events : List Event)
-    → goes_on (jobs_by job events) ≡ true
-goes_by job one [] = refl
-goes_by job one (event ∷ rest) = goes_append (job event.body) (jobs_by job rest) (one event.body) (goes_by job one rest)
-
-signal_goes : (kind : EventKind) → goes_on (signal_job kind) ≡ true
-signal_goes (kinds.WorkflowExecutionSignaled name input) = refl
-signal_goes _ = refl
-
-outside_goes : (events : List Event) (kind : EventKind) → goes_on (outside_job events kind) ≡ true
-outside_goes events (kinds.ActivityTaskFailed number) = refl
-outside_goes events _ = refl
-
 no_start_job : (kind : EventKind) → is_start_class (class_of kind) ≡ false → start_job kind ≡ []
 no_start_job (kinds.WorkflowExecutionStarted workflow input) is = cc
 no_start_job _ is = refl
@@ -146,8 +128,8 @@ others seen between = jobs_by signal_job between ++ jobs_by (outside_job seen) b
 
 others_go : (seen between : List Event) → goes_on (others seen between) ≡ true
 others_go seen between =
-    goes_append (jobs_by signal_job between) (jobs_by (outside_job seen) between) (goes_by signal_job signal_goes between)
-    (goes_by (outside_job seen) (outside_goes seen) between)
+    goes_append (jobs_by signal_job between) (jobs_by (outside_job seen) between) (signals_go between)
+    (outside_go seen between)
 
 -- if no event between the cuts begins the run, no job starts it
 pub cut_goes : (seen between : List Event) (cut : Event) → no_starts between ≡ true → goes_on (jobs_of seen between cut) ≡ true

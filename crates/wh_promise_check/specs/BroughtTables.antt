@@ -18,9 +18,10 @@ use Rattle.wh_rows.specs.Promises.{Promise, PromisesAll, KeptAllIn}
 use Rattle.wh_promise_check.specs.Kept.{without_markers, commands_in, HasIssued, Told, input_of}
 use Rattle.wh_table_promises.specs.declared.promise.TablePromise.{TablePromise}
 use Rattle.wh_table_promises.specs.Promised.{promise_of}
-use Rattle.wh_promise_check.specs.declared.findings.PromiseFindings.{PromiseFindings}
+use Rattle.wh_row_rules.specs.declared.promises.PromiseFindings.{PromiseFindings}
 use Rattle.wh_promise_check.specs.Phrases.{promise_in}
-use Rattle.wh_promise_check.specs.Findings.{phrases_in, AreDecided, are_kept}
+use Rattle.wh_promise_check.specs.Findings.{phrases_in, AreDecided}
+use Rattle.wh_row_rules.specs.Promises.{are_kept}
 
 -- the job as the rows of the run's table see it: the input of the start has only the payloads after the table
 abbrev pub as_rows_see : Job → Job

@@ -1,31 +1,31 @@
 -- What is found of the promises of a table.
-use Rattle.std.specs.Prelude.{◌<◌, ◌≤◌, ◌≡◌, ℕ, Bool, true, false, ◌&&◌, List, [], ◌∷◌, length, Option, Some, None, Result, Ok, Err, codes}
+use Rattle.std.specs.Prelude.{◌<◌, ◌≤◌, ◌≡◌, ℕ, List, [], ◌∷◌, length, Option, Some, None, option_and_then, codes}
+use Rattle.std.specs.Result.{result_ok}
 use Rattle.serde_json.specs.Data.{Data}
-use Rattle.wh_json.specs.declared.fault.ReadFault.{ReadFault}
 use Rattle.wh_json.specs.Fields.{field}
 use Rattle.wh_json.specs.Events.{document_within}
 use Rattle.wh_rows.specs.Tables.{Definition}
+use Rattle.wh_row_rules.specs.Broken.{definition}
+use Rattle.wh_row_rules.specs.declared.owned.OwnedTable.{OwnedTable}
 use Rattle.wh_table_text.specs.declared.fault.TableFault.TheVariants as faults
 use Rattle.wh_table_text.specs.Reading.{phrases_at}
-use Rattle.wh_table_promises.specs.declared.deciding.PromiseVerdict.TheVariants as verdicts
 use Rattle.wh_table_promises.specs.declared.promise.TablePromise.{TablePromise}
 use Rattle.wh_table_promises.specs.Promised.{promise_of}
 use Rattle.wh_table_promises.specs.Ways.{IsRight}
-use Rattle.wh_promise_check.specs.Phrases.{read_ok, promise_in}
-use Rattle.wh_promise_check.specs.declared.findings.PhraseFinding.{PhraseFinding}
-use Rattle.wh_promise_check.specs.declared.findings.PhraseFinding.TheVariants as outcomes
-use Rattle.wh_promise_check.specs.declared.findings.PromiseFinding.{PromiseFinding}
-use Rattle.wh_promise_check.specs.declared.findings.PromiseFindings.{PromiseFindings}
-use Rattle.wh_promise_check.specs.declared.findings.PromiseFindings.TheVariants as found
+use Rattle.wh_promise_check.specs.Phrases.{promise_in}
+use Rattle.wh_row_rules.specs.declared.promises.PhraseFinding.{PhraseFinding}
+use Rattle.wh_row_rules.specs.declared.promises.PhraseFinding.TheVariants as outcomes
+use Rattle.wh_row_rules.specs.declared.promises.PromiseFinding.{PromiseFinding}
+use Rattle.wh_row_rules.specs.declared.promises.PromiseFindings.{PromiseFindings}
+use Rattle.wh_row_rules.specs.declared.promises.PromiseFindings.TheVariants as found
 
--- the phrases of the member of a value that was read
-abbrev pub phrases_of : Result Data ReadFault → Option (List (List ℕ))
-phrases_of (Err fault) = None
-phrases_of (Ok value) = read_ok (phrases_at faults.NoRows (field (codes "promises") (Some value)))
+-- the phrases of the member `promises` of a value in JSON
+abbrev pub phrases_of : Data → Option (List (List ℕ))
+phrases_of value = result_ok (phrases_at faults.NoRows (field (codes "promises") (Some value)))
 
--- the phrases of the member `promises` of a text in JSON
+-- those of a text, if it is JSON
 abbrev pub phrases_in : List ℕ → Option (List (List ℕ))
-phrases_in bytes = phrases_of (document_within bytes)
+phrases_in bytes = option_and_then phrases_of (result_ok (document_within bytes))
 
 -- what is found of a promise is right; if there is none, that is found
 abbrev pub IsOutcome : Definition → Option TablePromise → PhraseFinding → Type 0
@@ -54,20 +54,7 @@ AreDecided table (Some phrases) found.TooMany = 50 < length phrases
 AreDecided table (Some phrases) (found.Each list) = (length phrases ≤ 50) × AreFound table phrases list
 AreDecided table _ _ = ⊥
 
--- a promise is kept
-abbrev pub is_kept_by : PhraseFinding → Bool
-is_kept_by (outcomes.Decided verdicts.Kept) = true
-is_kept_by _ = false
-
-abbrev pub is_kept : PromiseFinding → Bool
-is_kept finding = is_kept_by finding.outcome
-
--- each of these is
-abbrev pub all_kept : List PromiseFinding → Bool
-all_kept [] = true
-all_kept (finding ∷ list) = is_kept finding && all_kept list
-
--- each promise is kept
-abbrev pub are_kept : PromiseFindings → Bool
-are_kept (found.Each list) = all_kept list
-are_kept _ = false
+-- what is found of the promises of a table, of which a value in JSON has the phrases; without a table there is none
+abbrev pub AreFindingsOf : Option OwnedTable → Option Data → PromiseFindings → Type 0
+AreFindingsOf None value findings = findings ≡ found.Each []
+AreFindingsOf (Some table) value findings = AreDecided (definition table) (option_and_then phrases_of value) findings

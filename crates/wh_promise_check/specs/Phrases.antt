@@ -1,13 +1,13 @@
 -- How a phrase says a promise. Its words stand between single spaces.
-use Rattle.std.specs.Prelude.{ℕ, ◌==◌, Bool, not, ◌&&◌, List, [], Option, Some, None, option_map, Result, Ok, Err, bytes_eq, codes, if◌then◌else◌}
+use Rattle.std.specs.Prelude.{ℕ, ◌==◌, Bool, not, ◌&&◌, List, [], Option, Some, None, option_map, bytes_eq, codes, if◌then◌else◌}
 use Rattle.std.specs.List.{before_first, after_first}
+use Rattle.std.specs.Result.{result_ok}
 use Rattle.wh_rows.specs.Tables.{JobPattern}
 use Rattle.wh_table_promises.specs.declared.promise.Happening.{Happening}
 use Rattle.wh_table_promises.specs.declared.promise.Happening.TheVariants as happenings
 use Rattle.wh_table_promises.specs.declared.promise.TablePromise.{TablePromise}
 use Rattle.wh_table_promises.specs.declared.promise.TablePromise.TheVariants as promises
 use Rattle.wh_json.specs.Fields.{number_in}
-use Rattle.wh_table_text.specs.declared.fault.TableFault.{TableFault}
 use Rattle.wh_table_text.specs.Words.{word, rest, is_none}
 use Rattle.wh_table_text.specs.Reading.{job_at}
 use Rattle.wh_promise_check.specs.declared.reading.Both.{Both}
@@ -32,14 +32,9 @@ behind mark text = spaced (after mark text)
 abbrev pub is_name : List ℕ → Bool
 is_name text = not (is_none text) && bytes_eq (word text) text
 
--- what was read, unless it is a fault
-abbrev pub read_ok : {A : Type 0} → Result A TableFault → Option A
-read_ok (Ok value) = Some value
-read_ok (Err fault) = None
-
 -- the jobs that a text names as rows do
 abbrev pub job_in : List ℕ → Option JobPattern
-job_in text = read_ok (job_at 0 text)
+job_in text = result_ok (job_at 0 text)
 
 -- how a run closes
 abbrev pub close_in : List ℕ → Option Happening

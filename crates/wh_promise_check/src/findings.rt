@@ -1,62 +1,31 @@
 //! The promises of a table, and whether it keeps them.
 ghost use Rattle.std.specs.Prelude.{◌≡◌, IfOk, Some, option_map};
 ghost use Rattle.wh_row_rules.specs.Broken.{definition};
-ghost use Rattle.wh_promise_check.specs.Findings.{phrases_in, IsFound, AreFound, IsOutcome, IsDecided, AreDecided, is_kept, all_kept, are_kept};
+ghost use Rattle.serde_json.specs.View.{view};
+ghost use Rattle.wh_promise_check.specs.Findings.{phrases_of, IsFound, AreFound, IsOutcome, IsDecided, AreDecided, AreFindingsOf};
 
 use crate::reading::promise_in;
+use serde_json::Value;
 use std::alloc::Global;
 use wh_events::{Items, OutOfMemory, Text};
-use wh_json::{ReadFault, field, read_document};
-use wh_row_rules::OwnedTable;
-use wh_table_promises::{PromiseVerdict, TablePromise, decide};
-use wh_table_text::{TableFault, phrases_at};
+use wh_json::field;
+use wh_or_memory::OrMemory;
+use wh_row_rules::{OwnedTable, PhraseFinding, PromiseFinding, PromiseFindings};
+use wh_table_promises::{TablePromise, decide};
+use wh_table_text::{TableFault, TableReading, phrases_at};
 
 /// The most promises that a table may have.
 pub const MOST_PROMISES: usize = 50;
 
-/// What is found of a phrase.
-#[derive(Drop)]
-pub enum PhraseFinding {
-    /// No promise is written so.
-    NoPromise,
-    /// It says a promise, with this verdict.
-    Decided(PromiseVerdict),
-}
-
-/// A promise of a table, and whether it keeps it.
-#[derive(Drop)]
-pub struct PromiseFinding {
-    /// The phrase that says it.
-    pub phrase: Text,
-    /// What is found of it.
-    pub outcome: PhraseFinding,
-}
-
-/// What is found of the promises of a table.
-#[derive(Drop)]
-pub enum PromiseFindings {
-    /// The member `promises` is neither a text nor a list of texts, or the bytes are not JSON
-    /// (RFC 8259).
-    NoPhrases,
-    /// There are more than `MOST_PROMISES`.
-    TooMany,
-    /// What is found of each, in their order.
-    Each(Items<PromiseFinding>),
-}
-
-/// The phrases of the member `promises`. `None` if it is neither a text nor a list of texts.
-fn phrases_in(alloc: Global, bytes: &[u8]) -> Result<Option<Vec<Text>>, OutOfMemory>
-    ensures { IfOk result (λ found. option_map (λ texts. texts.items) found ≡ phrases_in bytes.now) }
+/// The phrases of the member `promises` of a value. `None` if it is neither a text nor a list of
+/// texts.
+fn phrases_of(alloc: Global, value: &Value) -> Result<Option<Vec<Text>>, OutOfMemory>
+    ensures { IfOk result (λ found. option_map (λ texts. texts.items) found ≡ phrases_of (view value.now)) }
 {
-    let value = match read_document(alloc, bytes) {
-        Ok(value) => value,
-        Err(ReadFault::OutOfMemory) => return Err(OutOfMemory),
-        Err(_) => return Ok(None),
-    };
-    match phrases_at(alloc, TableFault::NoRows, field(Some(&value), "promises")) {
+    match phrases_at(alloc, TableFault::NoRows, field(Some(value), "promises")) {
         Ok(phrases) => Ok(Some(phrases)),
-        Err(TableFault::OutOfMemory) => Err(OutOfMemory),
-        Err(_) => Ok(None),
+        Err(OrMemory::OutOfMemory) => Err(OutOfMemory),
+        Err(OrMemory::Fault(_)) => Ok(None),
     }
 }
 
@@ -129,17 +98,17 @@ fn findings_of(
     Ok(list)
 }
 
-/// Decides each promise of the member `promises` of a table's JSON: a phrase or a list of phrases. The
-/// bytes are those that `read_table` read as the table. A table without the member has no promise.
-/// `OutOfMemory` if an allocation was refused; nothing is left then.
+/// Decides each promise of a table, of which a value in JSON (RFC 8259) has the member `promises`:
+/// a phrase or a list of phrases. A table without the member has no promise. `OutOfMemory` if an
+/// allocation was refused; nothing is left then.
 pub fn check_promises(
     alloc: Global,
-    bytes: &[u8],
+    value: &Value,
     table: &OwnedTable,
 ) -> Result<PromiseFindings, OutOfMemory>
-    ensures { IfOk result (λ found. AreDecided (definition table.now) (phrases_in bytes.now) found) }
+    ensures { IfOk result (λ found. AreDecided (definition table.now) (phrases_of (view value.now)) found) }
 {
-    let Some(phrases) = phrases_in(alloc, bytes)? else {
+    let Some(phrases) = phrases_of(alloc, value)? else {
         return Ok(PromiseFindings::NoPhrases);
     };
     if MOST_PROMISES < phrases.len() {
@@ -149,34 +118,19 @@ pub fn check_promises(
     Ok(PromiseFindings::Each(Items::new(list)))
 }
 
-/// Whether a promise is kept.
-fn is_kept(finding: &PromiseFinding) -> bool
-    ensures { result ≡ is_kept finding.now }
+/// Returns what is found of the promises of a table in a file that was read. If the file has a
+/// fault as a table, there are none. `OutOfMemory` if an allocation was refused; nothing is left then.
+pub fn promise_findings(
+    alloc: Global,
+    reading: &TableReading,
+) -> Result<PromiseFindings, OutOfMemory>
+    ensures { IfOk result (AreFindingsOf reading.now.table (option_map view reading.now.value)) }
 {
-    matches!(
-        &finding.outcome,
-        PhraseFinding::Decided(PromiseVerdict::Kept)
-    )
-}
-
-/// Whether each of the list is kept.
-fn all_kept(list: &[PromiseFinding]) -> bool
-    ensures { result ≡ all_kept list.now }
-{
-    for finding in list {
-        if !is_kept(finding) {
-            return false;
-        }
-    }
-    true
-}
-
-/// Whether each promise is kept.
-pub fn are_kept(found: &PromiseFindings) -> bool
-    ensures { result ≡ are_kept found.now }
-{
-    match found {
-        PromiseFindings::Each(list) => all_kept(list.get()),
-        _ => false,
+    let Some(table) = &reading.table else {
+        return Ok(PromiseFindings::Each(Items::new(Vec::new(alloc))));
+    };
+    match &reading.value {
+        Some(value) => check_promises(alloc, value, table),
+        None => Ok(PromiseFindings::NoPhrases),
     }
 }

@@ -17,9 +17,5 @@
 mod findings;
 pub mod laws;
 mod reading;
-mod texts;
 
-pub use findings::{
-    MOST_PROMISES, PhraseFinding, PromiseFinding, PromiseFindings, are_kept, check_promises,
-};
-pub use texts::{findings_json, findings_text};
+pub use findings::{MOST_PROMISES, check_promises, promise_findings};

@@ -5,9 +5,10 @@ ghost use Rattle.wh_promise_check.specs.Phrases.{at_most_in, both_in, pair_in, b
 
 use std::alloc::Global;
 use wh_events::{OutOfMemory, Text};
+use wh_or_memory::OrMemory;
 use wh_rows::JobPattern;
 use wh_table_promises::{Happening, TablePromise};
-use wh_table_text::{TableFault, number_in, own_job_at, rest, word};
+use wh_table_text::{number_in, own_job_at, rest, word};
 use wh_workflow::text_of;
 
 /// What stands before the first colon of a text, or all if there is none.
@@ -88,8 +89,8 @@ fn job_in(alloc: Global, text: &str) -> Result<Option<JobPattern<Text>>, OutOfMe
 {
     match own_job_at(alloc, 0, text) {
         Ok(pattern) => Ok(Some(pattern)),
-        Err(TableFault::OutOfMemory) => Err(OutOfMemory),
-        Err(_) => Ok(None),
+        Err(OrMemory::OutOfMemory) => Err(OutOfMemory),
+        Err(OrMemory::Fault(_)) => Ok(None),
     }
 }
 

@@ -3,6 +3,7 @@ use Rattle.std.proofs.Common.{◌≡◌, ◌∙◌, ℕ, Bool, true, false, ◌|
 use Rattle.std.specs.Prelude.{IfSome, string_bytes}
 use Rattle.std.specs.Result.{result_ok}
 use Rattle.std.specs.List.{list_any}
+use Rattle.wh_console.specs.declared.replay_options.TheConstants.{NO_OPTIONS}
 use Rattle.wh_events.specs.Cuts.{cuts}
 use Rattle.wh_events.specs.Machines.{machines_of}
 use Rattle.wh_events.specs.Places.{history_fault}
@@ -24,10 +25,10 @@ use Rattle.wh_replay.specs.Checks.{checked}
 use Rattle.wh_replay.specs.Replays.{ReplayResult, Replayed, replay, replay_after, replay_known, replay_placed, replay_tasks, start, with_machines, workflow_of}
 use Rattle.wh_replay.specs.Tracking.{in_place}
 use Rattle.wh_replay.specs.Views.{context_after}
-use Rattle.wh_explain.specs.declared.explanation.Ending.{Ending}
-use Rattle.wh_explain.specs.declared.explanation.Ending.TheVariants.{Refused, Live, Recorded}
-use Rattle.wh_explain.specs.declared.explanation.ExplainedTask.{ExplainedTask}
-use Rattle.wh_explain.specs.declared.explanation.Pairing.{Pairing}
+use Rattle.wh_explained_tasks.specs.declared.Ending.{Ending}
+use Rattle.wh_explained_tasks.specs.declared.Ending.TheVariants.{Refused, Live, Recorded}
+use Rattle.wh_explained_tasks.specs.declared.ExplainedTask.{ExplainedTask}
+use Rattle.wh_explained_tasks.specs.declared.Pairing.{Pairing}
 use Rattle.wh_explain.specs.Differences.{IsDifferenceIn, difference_at, difference_of, if_differs, last_difference, last_of}
 use Rattle.wh_explain.specs.Explaining.{AreTasks, AreTasksIf, AreTasksIn, AreTasksOf, AreTasksPlaced, IsTask, all, ending_of, passed, stopped, stops}
 use Rattle.wh_explain.specs.Laws.{EndAs}
@@ -167,7 +168,7 @@ module _ {S : Type 0} (program : Program S) where
   found_read (Err fault) found is = absurd (cc)
   found_read (Ok events) found is = (events, refl, some_ok (checked program events) found is)
 
-  of_good : (lawful : IsLawful program) (file : File) (found : Checked) (events : List Event) → history file.1.items ≡ Ok events → checked program events ≡ Ok found → IsRecordOf false program file (good_record (string_bytes file.0) found)
+  of_good : (lawful : IsLawful program) (file : File) (found : Checked) (events : List Event) → history file.1.items ≡ Ok events → checked program events ≡ Ok found → IsRecordOf NO_OPTIONS program file (good_record (string_bytes file.0) found)
   unfolding verdict_on
   of_good lawful file found events read is =
       let own = replayed_where events found is in
@@ -188,7 +189,7 @@ module _ {S : Type 0} (program : Program S) where
       }
 
   -- a file of which replay finds this has this record
-  pub good_is_record : IsLawful program → (file : File) (found : Checked) (own : Record) → Some found ≡ checked_in program file.1.items → own ≡ good_record (string_bytes file.0) found → IsRecordOf false program file own
+  pub good_is_record : IsLawful program → (file : File) (found : Checked) (own : Record) → Some found ≡ checked_in program file.1.items → own ≡ good_record (string_bytes file.0) found → IsRecordOf NO_OPTIONS program file own
   good_is_record lawful file found own is same =
       let there = found_read (history file.1.items) found is in
-      subst (IsRecordOf false program file) (sym same) (of_good lawful file found there.0 there.1 there.2)
+      subst (IsRecordOf NO_OPTIONS program file) (sym same) (of_good lawful file found there.0 there.1 there.2)

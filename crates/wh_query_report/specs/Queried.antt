@@ -1,5 +1,6 @@
 -- What a query of a history file gives.
 use Rattle.std.specs.Prelude.{◌≡◌, ℕ, ◌&&◌, Bool, true, false, List, Result, Ok, Err, IfSome, if◌then◌else◌, string_bytes}
+use Rattle.wh_console.specs.declared.replay_options.TheConstants.{NO_OPTIONS}
 use Rattle.wh_events.specs.declared.event.Event.{Event}
 use Rattle.wh_json.specs.Events.{history}
 use Rattle.wh_json.specs.declared.fault.ReadFault.{ReadFault}
@@ -45,6 +46,6 @@ module _ {S : Type 0} where
   -- the record of the file, which is exact if it is good, and what the query gives at its history
   pub record IsQueried (program : Program S) (queries : Queries S) (file : File) (query : Query)
       (queried : Queried) : Type 0 where
-    pub own : IsRecordOf false program file queried.own
+    pub own : IsRecordOf NO_OPTIONS program file queried.own
     pub good : IfSome (checked_in program file.1.items) (λ found. queried.own ≡ good_record (string_bytes file.0) found)
     pub given : queried.given ≡ file_result program queries file.1.items query

@@ -1,6 +1,6 @@
 //! What a query of a history file gives.
 
-ghost use Rattle.std.specs.Prelude.{◌≡◌, IfOk, IfSome, false, string_bytes};
+ghost use Rattle.std.specs.Prelude.{◌≡◌, IfOk, IfSome, string_bytes};
 ghost use Rattle.std.specs.Result.{result_ok};
 ghost use Rattle.wh_workflow.specs.declared.queryable.QueryResult.TheVariants.{Failed};
 ghost use Rattle.wh_query.specs.Queries.{query_at};
@@ -13,6 +13,7 @@ ghost use Rattle.wh_query_report.specs.Queried.{IsQueried, file_result, replayed
 
 use crate::checked::{good_record, tasks_in};
 use std::alloc::Global;
+use wh_console::NO_OPTIONS;
 use wh_events::{Event, OutOfMemory, Text};
 use wh_json::{ReadFault, read_events};
 use wh_query::query_history;
@@ -88,7 +89,7 @@ fn query_bytes<W: Queryable>(
 /// found, for what stands beside its fault.
 fn record_by<W: Workflow>(alloc: Global, file: (String, Vec<u8>), found: Option<Checked>) -> Record
     requires { found ≡ checked_in W.program file.1.items }
-    ensures own { IsRecordOf false W.program file result }
+    ensures own { IsRecordOf NO_OPTIONS W.program file result }
     ensures good { IfSome found (λ found. result ≡ good_record (string_bytes file.0) found) }
 {
     match found {
@@ -97,7 +98,7 @@ fn record_by<W: Workflow>(alloc: Global, file: (String, Vec<u8>), found: Option<
             drop(bytes);
             good_record(alloc, name, found)
         }
-        None => record_of::<W>(alloc, false, file),
+        None => record_of::<W>(alloc, NO_OPTIONS, file),
     }
 }
 

@@ -1,10 +1,9 @@
 -- What replay of files writes and reports.
 use Rattle.std.specs.Prelude.{◌≡◌, ◌≢◌, ◌⊎◌, ℕ, List, ◌∷◌, Bool, Option}
 use Rattle.std.specs.List.{list_any}
-use Rattle.wh_command_line.specs.declared.replay_options.ReplayOptions.{ReplayOptions}
+use Rattle.wh_console.specs.declared.replay_options.ReplayOptions.{ReplayOptions}
 use Rattle.wh_console.specs.Consoles.{ConsoleView, IsQuiet, Printed, Reported}
-use Rattle.wh_console.specs.declared.format.Format.{Format}
-use Rattle.wh_diagnostics.specs.Diagnostics.{records_lines}
+use Rattle.wh_report.specs.Notes.{records_lines}
 use Rattle.wh_diagnostics.specs.Failures.{IsReportFailure}
 use Rattle.wh_diagnostics.specs.Printing.{status_with}
 use Rattle.wh_diagnostics.specs.declared.failures.Failure.{Failure}
@@ -19,16 +18,16 @@ use Rattle.wh_diagnostics.specs.Batches.{HasStoppedWhole, reports_of}
 use Rattle.wh_diagnostics.specs.ProgressModes.{mode_by}
 use Rattle.wh_diagnostics.specs.declared.progress_modes.ProgressMode.{ProgressMode}
 use Rattle.wh_report.specs.Records.{AreRecordsOf}
-use Rattle.wh_report.specs.Reports.{records_status, report_as}
+use Rattle.wh_report.specs.Reports.{records_status, report_of}
 use Rattle.wh_report.specs.declared.records.Record.{Record}
 use Rattle.wh_workflow.specs.Law.{Program}
 
 -- the report of records was written, then the rest of them was reported, and the status is that of the report, unless
 -- files are lacking
-pub record HasReported (records : List Record) (format : Format) (lacks : Bool) (old new : ConsoleView)
+pub record HasReported (records : List Record) (options : ReplayOptions) (lacks : Bool) (old new : ConsoleView)
     (status : ℕ) : Type 0 where
   pub between : ConsoleView
-  pub printed : Printed old between (report_as format records)
+  pub printed : Printed old between (report_of options records)
   pub reported : Reported between new (records_lines records)
   pub ends : status ≡ status_with lacks (records_status records)
 
@@ -40,26 +39,20 @@ pub record HasReplayed {S : Type 0} (gives : Gives) (options : ReplayOptions) (p
   pub records : List Record
   pub between : ConsoleView
   pub ended : ConsoleView
-  pub found : AreRecordsOf options.strict_values program (IsReadAs gives) inputs records
+  pub found : AreRecordsOf options program (IsReadAs gives) inputs records
   pub told : Reported old between (reports_of mode (faulty_of records))
-  pub reported : HasReported records options.format lacks between ended status
+  pub reported : HasReported records options lacks between ended status
   pub known : Reported ended new (known_types_text types (list_any (λ own. lacks_code own.detail) records))
 
--- all inputs were read as files and replayed, and all of progress was reported
-pub record HasReplayedAll {S : Type 0} (gives : Gives) (strict : Bool) (program : Program S) (inputs : List Input)
-    (mode : ProgressMode) (old new : ConsoleView) : Type 0 where
-  pub records : List Record
-  pub found : AreRecordsOf strict program (IsReadAs gives) inputs records
-  pub told : Reported old new (reports_of mode (faulty_of records))
-
 -- there is no report: progress was reported after some batches of what was replayed, what erases a line of it was
--- written, and nothing more was reported; if the output failed, all inputs were replayed before, and otherwise nothing
--- was written either
-pub record HasNotReplayed {S : Type 0} (gives : Gives) (strict : Bool) (program : Program S) (inputs : List Input)
-    (mode : ProgressMode) (old new : ConsoleView) (failure : Failure) : Type 0 where
+-- written, and nothing more was reported; if the output failed, all inputs were read as files and replayed before, and
+-- all of progress was reported; otherwise nothing was written either
+pub record HasNotReplayed {S : Type 0} (gives : Gives) (options : ReplayOptions) (program : Program S)
+    (inputs : List Input) (mode : ProgressMode) (old new : ConsoleView) (failure : Failure) : Type 0 where
   pub between : ConsoleView
-  pub stopped : HasStoppedWhole (AreRecordsOf strict program (IsReadAs gives)) faulty_of mode inputs old between
-  pub whole : failure ≡ Output → HasReplayedAll gives strict program inputs mode old between
+  pub stopped : HasStoppedWhole (AreRecordsOf options program (IsReadAs gives)) faulty_of mode inputs old between
+  pub whole : failure ≡ Output → (records : List Record) × AreRecordsOf options program (IsReadAs gives) inputs records
+      × Reported old between (reports_of mode (faulty_of records))
   pub quiet : IsQuiet between new
   pub unwritten : failure ≢ Output → new ≡ between
   pub why : IsReportFailure failure
@@ -81,5 +74,5 @@ HasNotReplayedPaths program first more options old new failure =
     AreUnlisted (is_by_path more) (first ∷ more) old new failure
     ⊎ AfterListing (AreListed (is_by_path more) (first ∷ more)) (λ inputs left_out old new failure.
     (link : Option (List ℕ))
-    × HasNotReplayed IsReadFrom options.strict_values program inputs (mode_by link options.progress) old new failure)
+    × HasNotReplayed IsReadFrom options program inputs (mode_by link options.progress) old new failure)
     old new failure

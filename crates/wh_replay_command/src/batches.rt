@@ -10,7 +10,7 @@ ghost use Rattle.wh_report.specs.Records.{AreRecordsOf};
 
 use std::io::Write;
 use std::thread::Threads;
-use wh_console::{Console, Input, InputFault};
+use wh_console::{Console, Input, InputFault, ReplayOptions};
 use wh_diagnostics::{
     InputReader, Progress, ProgressEnd, ProgressLine, ProgressMode, batch_size, file_from,
     reported_batches,
@@ -44,17 +44,17 @@ fn progress_of(records: &[Record], total: usize) -> Progress
 fn check_batch<W: Workflow + Send, R: InputReader + AllocGlobal + Threads + Sync>(
     rt: &R,
     inputs: Vec<Input>,
-    strict: bool,
+    options: ReplayOptions,
     records: &mut Vec<Record>,
 ) -> Result<(), InputFault>
     ensures { OnOk result
-        (AddsRecords strict W.program (IsReadAs R.gives) inputs.items records.old.items records.new.items) }
+        (AddsRecords options W.program (IsReadAs R.gives) inputs.items records.old.items records.new.items) }
 {
     let mut own = check_all::<W, R, _, _>(
         rt,
         rt.alloc(),
         inputs,
-        strict,
+        options,
         |input: Input| -> Result<(String, Vec<u8>), InputFault>
             ensures { IfOk result (IsReadAs R.gives input) }
         { file_from(rt, input) },
@@ -75,15 +75,15 @@ fn check_batches<
 >(
     rt: &R,
     inputs: Vec<Input>,
-    strict: bool,
+    options: ReplayOptions,
     mode: ProgressMode,
     console: &mut Console<'_, O, E>,
 ) -> Result<Vec<Record>, InputFault>
     ensures found { IfOk result (λ records.
-        AreRecordsOf strict W.program (IsReadAs R.gives) inputs.items records.items) }
+        AreRecordsOf options W.program (IsReadAs R.gives) inputs.items records.items) }
     ensures told { let total = length inputs.items in IfOk result (λ records. Reported console.old console.new
         (reports_after mode total (faulty_of records.items) (reported_batches mode total))) }
-    ensures stopped { IfErr result (λ _. HasStopped (AreRecordsOf strict W.program (IsReadAs R.gives)) faulty_of
+    ensures stopped { IfErr result (λ _. HasStopped (AreRecordsOf options W.program (IsReadAs R.gives)) faulty_of
         mode inputs.items console.old console.new) }
 {
     let total = inputs.len();
@@ -94,12 +94,12 @@ fn check_batches<
         let Ok(later) = left.split_off(size) else {
             return Err(InputFault::OutOfMemory);
         };
-        check_batch::<W, R>(rt, left, strict, &mut records)?;
+        check_batch::<W, R>(rt, left, options, &mut records)?;
         left = later;
         let progress = progress_of(records.as_slice(), total);
         console.report(ProgressLine { mode, progress });
     }
-    check_batch::<W, R>(rt, left, strict, &mut records)?;
+    check_batch::<W, R>(rt, left, options, &mut records)?;
     Ok(records)
 }
 
@@ -113,19 +113,19 @@ pub(crate) fn check_in_batches<
 >(
     rt: &R,
     inputs: Vec<Input>,
-    strict: bool,
+    options: ReplayOptions,
     mode: ProgressMode,
     console: &mut Console<'_, O, E>,
 ) -> Result<Vec<Record>, InputFault>
     ensures found { IfOk result (λ records.
-        AreRecordsOf strict W.program (IsReadAs R.gives) inputs.items records.items) }
+        AreRecordsOf options W.program (IsReadAs R.gives) inputs.items records.items) }
     ensures told { IfOk result (λ records.
         Reported console.old console.new (reports_of mode (faulty_of records.items))) }
-    ensures stopped { IfErr result (λ _. HasStoppedWhole (AreRecordsOf strict W.program (IsReadAs R.gives)) faulty_of
+    ensures stopped { IfErr result (λ _. HasStoppedWhole (AreRecordsOf options W.program (IsReadAs R.gives)) faulty_of
         mode inputs.items console.old console.new) }
 {
     let lines = reported_batches(mode, inputs.len());
-    let records = check_batches::<W, R, O, E>(rt, inputs, strict, mode, console);
+    let records = check_batches::<W, R, O, E>(rt, inputs, options, mode, console);
     console.report(ProgressEnd { mode, lines });
     records
 }

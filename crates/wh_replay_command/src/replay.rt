@@ -2,38 +2,47 @@
 
 ghost use Rattle.std.specs.Prelude.{◌≡◌, IfErr, IfOk, OnOk};
 ghost use Rattle.std.specs.List.{list_any};
-ghost use Rattle.wh_console.specs.Consoles.{IsQuiet, Printed};
+ghost use Rattle.wh_console.specs.Consoles.{IsQuiet, Printed, Reported};
 ghost use Rattle.wh_replay_command.specs.Replays.{HasNotReplayed, HasNotReplayedPaths, HasReplayed, HasReplayedPaths, HasReported};
 ghost use Rattle.wh_diagnostics.specs.KnownTypes.{lacks_code};
-ghost use Rattle.wh_report.specs.Reports.{records_status, report_as};
+ghost use Rattle.wh_report.specs.Notes.{records_lines};
+ghost use Rattle.wh_report.specs.Reports.{records_status, report_of};
 
 use crate::batches::check_in_batches;
 use std::io::Write;
 use std::rt::Runtime;
 use std::thread::Threads;
-use wh_command_line::ReplayOptions;
-use wh_console::{Console, Format, Input};
+use wh_console::{Console, Input, ReplayOptions};
 use wh_diagnostics::{
-    Diagnostic, Failure, InputReader, KnownTypes, ProgressMode, all_inputs, flush_answer,
-    lacks_code, progress_mode, status_with,
+    Failure, InputReader, KnownTypes, ProgressMode, all_inputs, flush_answer, lacks_code,
+    progress_mode, status_with,
 };
 use wh_events::Text;
 use wh_file_faults::CommandFault;
 use wh_report::{Record, report};
 use wh_workflow::Workflow;
 
-/// Writes the report of records, and returns its status.
+/// Writes the report of records that options ask for, and returns its status.
 fn print_report<O: Write, E: Write>(
     records: &[Record],
-    format: Format,
+    options: ReplayOptions,
     console: &mut Console<'_, O, E>,
 ) -> Result<u8, CommandFault>
-    ensures printed { OnOk result (Printed console.old console.new (report_as format records.now)) }
+    ensures printed { OnOk result (Printed console.old console.new (report_of options records.now)) }
     ensures status { IfOk result (λ status. status ≡ records_status records.now) }
     ensures quiet { IsQuiet console.old console.new }
     ensures output { IfErr result (λ fault. fault ≡ CommandFault.Output) }
 {
-    report(records, format, &mut console.output)
+    report(records, options, &mut console.output)
+}
+
+/// Reports what stands beside the report of records, in their order.
+fn report_records<O: Write, E: Write>(records: Vec<Record>, console: &mut Console<'_, O, E>)
+    ensures { Reported console.old console.new (records_lines records.items) }
+{
+    for own in records {
+        console.report(own);
+    }
 }
 
 /// Writes the report of records, and once it is out, reports what is sent and what is recorded
@@ -41,16 +50,16 @@ fn print_report<O: Write, E: Write>(
 /// registered.
 fn end_report<O: Write, E: Write>(
     records: Vec<Record>,
-    format: Format,
+    options: ReplayOptions,
     lacks: bool,
     console: &mut Console<'_, O, E>,
 ) -> Result<u8, Failure>
-    ensures reported { IfOk result (HasReported records.items format lacks console.old console.new) }
+    ensures reported { IfOk result (HasReported records.items options lacks console.old console.new) }
     ensures cut { IfErr result (λ failure. (failure ≡ Failure.Output) × IsQuiet console.old console.new) }
 {
-    let answer = print_report(records.as_slice(), format, console);
+    let answer = print_report(records.as_slice(), options, console);
     let status = flush_answer(answer, console)?;
-    console.report(Diagnostic::BadFiles { records });
+    report_records(records, console);
     Ok(status_with(lacks, status))
 }
 
@@ -76,12 +85,11 @@ fn replay<W: Workflow + Send, R: InputReader + AllocGlobal + Threads + Sync, O: 
     ensures replayed { IfOk result
         (HasReplayed R.gives options W.program types.now inputs.items mode lacks console.old console.new) }
     ensures stopped { IfErr result
-        (HasNotReplayed R.gives options.strict_values W.program inputs.items mode console.old console.new) }
+        (HasNotReplayed R.gives options W.program inputs.items mode console.old console.new) }
 {
-    let strict = options.strict_values;
-    let records = check_in_batches::<W, R, O, E>(rt, inputs, strict, mode, console)?;
+    let records = check_in_batches::<W, R, O, E>(rt, inputs, options, mode, console)?;
     let lacking = lack_code(records.as_slice());
-    let status = match end_report(records, options.format, lacks, console) {
+    let status = match end_report(records, options, lacks, console) {
         Ok(status) => status,
         Err(failure) => return Err(failure),
     };

@@ -1,8 +1,8 @@
 -- Files that are parsed again for the detail of their fault are not too long.
 use Rattle.std.proofs.Common.{◌≡◌, ◌∙◌, ◌≤◌, ℕ, Bool, true, false, List, [], None, ap, arith, length, refl, subst, sym}
-use Rattle.std.specs.Prelude.{◌≢◌, Result, Ok, Err, IfErr, nat_lt, string_bytes}
+use Rattle.std.specs.Prelude.{◌≢◌, Result, Ok, Err, nat_lt, string_bytes}
 use Rattle.wh_events.specs.declared.event.Event.{Event}
-use Rattle.wh_explain.specs.Explaining.{unknown_in}
+use Rattle.wh_tester.specs.UnknownTypes.{unknown_in}
 use Rattle.wh_file_faults.specs.Details.{IsDetailBy, is_parsed_again}
 use Rattle.wh_file_faults.specs.Faults.{File}
 use Rattle.wh_json.specs.Events.{history, longest}
@@ -15,6 +15,7 @@ use Rattle.wh_tester.proofs.Reading.{read_within}
 use Rattle.wh_tester.specs.Verdicts.{IsVerdict, judged, read_and_judged, verdict_on}
 use Rattle.wh_tester.specs.declared.line.Verdict.{Verdict}
 use Rattle.wh_tester.specs.declared.line.Verdict.TheVariants.{Faulty, OutOfMemory, Unreadable}
+use Rattle.wh_console.specs.declared.replay_options.ReplayOptions.{ReplayOptions}
 use Rattle.wh_workflow.specs.Law.{Program}
 use Rattle.wh_report.specs.declared.records.Record.{Record}
 use Rattle.wh_report.specs.Records.{IsRecordOf}
@@ -50,8 +51,8 @@ parsed_within program bytes (Faulty fault) own has = replayed_within program byt
 parsed_within program bytes verdict own has = absurd (cc)
 
 -- the record of a file for which there was no memory
-pub no_memory_is : {S : Type 0} (strict : Bool) (program : Program S) (file : File) (own : Record) → own.line ≡ record { name = string_bytes file.0; verdict = OutOfMemory } → own.detail ≡ None → own.warnings ≡ [] → length file.1.items ≤ longest → IsRecordOf strict program file own
-no_memory_is strict program file own line undetailed unwarned within =
+pub no_memory_is : {S : Type 0} (options : ReplayOptions) (program : Program S) (file : File) (own : Record) → own.line ≡ record { name = string_bytes file.0; verdict = OutOfMemory } → own.detail ≡ None → own.warnings ≡ [] → length file.1.items ≤ longest → IsRecordOf options program file own
+no_memory_is options program file own line undetailed unwarned within =
     let ends : own.line.verdict ≡ OutOfMemory = ap (λ l. l.verdict) line in
     record {
       line = record {

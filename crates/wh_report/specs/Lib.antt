@@ -1,2 +1,5 @@
+pub mod Checked
+pub mod Notes
+pub mod Private
 pub mod Records
 pub mod Reports

@@ -1,13 +1,14 @@
 -- The report of records, and the status that it gives.
-use Rattle.std.specs.Prelude.{ℕ, List, [], ◌∷◌, ◌++◌, map, codes, decimal, Bool, true, false, Option, Some, None, if◌then◌else◌}
+use Rattle.std.specs.Prelude.{ℕ, List, [], ◌∷◌, ◌++◌, map, codes, Bool, true, false, if◌then◌else◌}
 use Rattle.std.specs.List.{flat_map, list_any}
-use Rattle.wh_tester.specs.Json.{json_totals, plain_member, text_member}
-use Rattle.wh_tester.specs.Report.{all_good, report, shown}
+use Rattle.wh_tester.specs.Json.{json_totals}
+use Rattle.wh_tester.specs.Report.{all_good, report}
 use Rattle.wh_tester.specs.declared.line.Line.{Line}
 use Rattle.wh_phrases.specs.Json.{difference_members, json_line_with}
 use Rattle.wh_file_faults.specs.DetailTexts.{detail_members}
 use Rattle.wh_console.specs.declared.format.Format.{Format}
 use Rattle.wh_console.specs.declared.format.Format.TheVariants.{Text, Json}
+use Rattle.wh_console.specs.declared.replay_options.ReplayOptions.{ReplayOptions}
 use Rattle.wh_phrases.specs.Texts.{value_object}
 use Rattle.wh_phrases.specs.declared.comparing.OtherValue.{OtherValue}
 use Rattle.wh_report.specs.declared.records.Record.{Record}
@@ -39,6 +40,10 @@ lines_of records = map (λ own. own.line) records
 abbrev pub report_as : Format → List Record → List ℕ
 report_as Json records = flat_map json_record records ++ json_totals (lines_of records)
 report_as Text records = report (lines_of records)
+
+-- the report that options ask for
+abbrev pub report_of : ReplayOptions → List Record → List ℕ
+report_of options records = report_as options.format records
 
 -- values of a file differ
 abbrev pub some_value : List OtherValue → Bool

@@ -4,18 +4,19 @@ ghost use Rattle.std.specs.Prelude.{◌≡◌, ◌≢◌, Err, IfErr, IfOk, Matc
 ghost use Rattle.wh_file_faults.specs.Made.{IsFaultIn};
 ghost use Rattle.wh_json.specs.Events.{history};
 ghost use Rattle.wh_explain.specs.Differences.{IsDifferenceIn};
-ghost use Rattle.wh_explain.specs.Explaining.{unknown_in};
+ghost use Rattle.wh_tester.specs.UnknownTypes.{unknown_in};
 ghost use Rattle.wh_report.specs.Records.{AreRecordsOf, AreWarnings, IsRecordOf, IsRecordOfInput};
 ghost use Rattle.wh_tester.specs.Verdicts.{IsVerdict};
 
+use crate::checking::check_values;
 use rayon::prelude::*;
 use std::alloc::Global;
 use std::thread::Threads;
-use wh_console::InputFault;
+use wh_console::{InputFault, ReplayOptions};
 use wh_events::{Items, OutOfMemory, Text};
-use wh_explain::{Finding, Pairing, check_file};
+use wh_explain::{Explanation, Pairing, check_file};
 use wh_file_faults::{FaultDetail, file_detail};
-use wh_phrases::{OtherValue, check_values};
+use wh_phrases::OtherValue;
 use wh_tester::{Line, Verdict};
 use wh_workflow::Workflow;
 
@@ -35,17 +36,21 @@ pub struct Record {
 
 /// What the replay of a file finds, and its warnings: if values are strict, those that differ from
 /// what is recorded, and else none. It is parsed once and its history is replayed once.
-fn found_in<W: Workflow>(alloc: Global, strict: bool, bytes: &[u8]) -> (Finding, Vec<OtherValue>)
+fn found_in<W: Workflow>(
+    alloc: Global,
+    options: ReplayOptions,
+    bytes: &[u8],
+) -> (Explanation, Vec<OtherValue>)
     ensures verdict { IsVerdict W.program bytes.now result.0.verdict }
     ensures unknown { result.0.verdict ≢ Verdict.OutOfMemory
         → result.0.unknown ≡ unknown_in W.program (history bytes.now) }
     ensures difference { result.0.verdict ≢ Verdict.OutOfMemory
         → IsDifferenceIn W.program bytes.now result.0.difference }
     ensures warnings { result.0.verdict ≢ Verdict.OutOfMemory
-        → AreWarnings strict W.program bytes.now result.0.verdict result.1.items }
+        → AreWarnings options.strict_values W.program bytes.now result.0.verdict result.1.items }
     ensures none { result.0.verdict ≡ Verdict.OutOfMemory → result.1.items ≡ [] }
 {
-    if strict {
+    if options.strict_values {
         check_values::<W>(alloc, bytes)
     } else {
         (check_file::<W>(alloc, bytes), Vec::new(alloc))
@@ -74,16 +79,22 @@ fn no_memory(alloc: Global, name: Text) -> Record
 /// verdict is `OutOfMemory` also if there was no memory to read the bytes once more for the detail
 /// of a fault.
 #[tactic(auto, using(wh_file_faults::proofs::Details::detail_along))]
-pub fn record_of<W: Workflow>(alloc: Global, strict: bool, file: (String, Vec<u8>)) -> Record
-    ensures { IsRecordOf strict W.program file result }
+pub fn record_of<W: Workflow>(
+    alloc: Global,
+    options: ReplayOptions,
+    file: (String, Vec<u8>),
+) -> Record
+    ensures { IsRecordOf options W.program file result }
 {
     let (name, bytes) = file;
-    let (finding, warnings) = found_in::<W>(alloc, strict, bytes.as_slice());
-    let Finding {
+    let (explanation, warnings) = found_in::<W>(alloc, options, bytes.as_slice());
+    let Explanation {
         verdict,
         unknown,
         difference,
-    } = finding;
+        tasks,
+    } = explanation;
+    drop(tasks);
     let detail = file_detail(alloc, unknown, &verdict, bytes.as_slice());
     drop(bytes);
     let name = Text::new(name);
@@ -116,10 +127,16 @@ pub fn check_all<
     R: Threads + Sync,
     T: Send + Drop,
     F: Fn(T) -> Result<(String, Vec<u8>), InputFault> + Copy + Send + Sync,
->(rt: &R, alloc: Global, inputs: Vec<T>, strict: bool, read: F) -> Result<Vec<Record>, InputFault>
+>(
+    rt: &R,
+    alloc: Global,
+    inputs: Vec<T>,
+    options: ReplayOptions,
+    read: F,
+) -> Result<Vec<Record>, InputFault>
     requires { F.IsAlwaysCallable read }
     ensures records { IfOk result (λ records.
-        AreRecordsOf strict W.program (λ input file. F.post read input (Ok file)) inputs.items records.items) }
+        AreRecordsOf options W.program (λ input file. F.post read input (Ok file)) inputs.items records.items) }
     ensures fault { IfErr result (IsFaultIn (λ input fault. F.post read input (Err fault)) inputs.items) }
 {
     let Ok(records) = inputs
@@ -129,11 +146,11 @@ pub fn check_all<
             |input: T| -> Result<Record, InputFault>
                 requires { F.IsAlwaysCallable read }
                 ensures { MatchResult result
-                    (IsRecordOfInput strict W.program (λ input file. F.post read input (Ok file)) input)
+                    (IsRecordOfInput options W.program (λ input file. F.post read input (Ok file)) input)
                     (λ fault. F.post read input (Err fault)) }
             {
                 let file = read(input)?;
-                Ok(record_of::<W>(alloc, strict, file))
+                Ok(record_of::<W>(alloc, options, file))
             },
         )
         .collect::<Result<Vec<Record>, InputFault>>(rt, alloc)

@@ -8,12 +8,12 @@ ghost use Rattle.wh_file_faults.specs.DetailTexts.{detail_members};
 ghost use Rattle.wh_tester.specs.Json.{following};
 ghost use Rattle.wh_phrases.specs.Texts.{value_object};
 ghost use Rattle.wh_tester.specs.Report.{all_good, good_count, is_good, line_text};
-ghost use Rattle.wh_report.specs.Reports.{json_record, lines_of, members_after, object_after, records_status, report_as, some_value, warning_members};
+ghost use Rattle.wh_report.specs.Reports.{json_record, lines_of, members_after, object_after, records_status, report_as, report_of, some_value, warning_members};
 
 use crate::records::Record;
 use std::io;
 use std::io::Write;
-use wh_console::Format;
+use wh_console::{Format, ReplayOptions};
 use wh_file_faults::{CommandFault, FaultDetailMembers};
 use wh_phrases::{DifferenceMembers, OtherValue, OtherValueObject};
 use wh_tester::{Line, is_good, write_json_totals, write_line, write_open_json_line, write_totals};
@@ -196,19 +196,19 @@ pub fn write_report<O: Write>(records: &[Record], format: Format, writer: &mut O
     }
 }
 
-/// Writes the report of records, and gives its status: 1 if a file is not good, and else 3 if
-/// values of one differ, and 0 if none do.
+/// Writes the report of records that options ask for, and gives its status: 1 if a file is not
+/// good, and else 3 if values of one differ, and 0 if none do.
 pub fn report<O: Write>(
     records: &[Record],
-    format: Format,
+    options: ReplayOptions,
     writer: &mut O,
 ) -> Result<u8, CommandFault>
     ensures written { OnOk result
-        (Appends (O.contents writer.old) (O.contents writer.new) (report_as format records.now)) }
+        (Appends (O.contents writer.old) (O.contents writer.new) (report_of options records.now)) }
     ensures status { IfOk result (λ status. status ≡ records_status records.now) }
     ensures output { result ≢ Err CommandFault.OutOfMemory }
 {
-    let Ok(()) = write_report(records, format, writer) else {
+    let Ok(()) = write_report(records, options.format, writer) else {
         return Err(CommandFault::Output);
     };
     Ok(status_of(records))

@@ -1,6 +1,6 @@
 //! The rules that rows may break, and the faults of a table.
 
-/// A rule that a row breaks. docs/WRITE-A-WORKFLOW.md explains each.
+/// A rule that a row breaks. docs/write/WRITE-A-WORKFLOW.md explains each.
 #[derive(Clone, Copy, Debug)]
 pub enum BrokenRule {
     /// It gives more than 64 commands.

@@ -181,7 +181,8 @@ pub struct Counters {
     pub d: u64,
 }
 
-/// The bounds of a table that uses no counter.
+/// Counters that are all 0: those with which a run begins, and the bounds of a table that uses no
+/// counter.
 pub const UNCOUNTED: Counters = Counters {
     a: 0,
     b: 0,

@@ -6,7 +6,7 @@ ghost use Rattle.wh_rows.specs.Rules.{table_fault};
 ghost use Rattle.wh_rows.specs.Lawful.{rows_lawful};
 
 use crate::follow::{answer, take_start};
-use crate::row::{Counters, Definition, RowsState};
+use crate::row::{Definition, RowsState, UNCOUNTED};
 use crate::state_name::StateName;
 use std::alloc::Global;
 use std::marker::PhantomData;
@@ -51,12 +51,7 @@ impl<T: Table> Workflow for Rows<T> {
             name: text_of(alloc, "")?,
             input: no_payloads(alloc),
             kept: no_payloads(alloc),
-            counts: Counters {
-                a: 0,
-                b: 0,
-                c: 0,
-                d: 0,
-            },
+            counts: UNCOUNTED,
         })
     }
 

@@ -5,15 +5,15 @@ use Rattle.std.specs.List.{flat_map}
 use Rattle.std.proofs.lemmas.Bool.{eqb-true, eqb-false}
 use Rattle.std.proofs.lemmas.List.{replicate_more, length-replicate, length-append, take_all, take-take, take-append-drop, drop-take, drop-drop}
 use Rattle.std.proofs.lemmas.List.Concat.{flat_map-append}
-use Rattle.wh_timeline.specs.declared.page.TaskLine.{TaskLine}
-use Rattle.wh_timeline.specs.declared.page.Task.{Task}
+use Rattle.wh_html.specs.declared.page.TaskLine.{TaskLine}
+use Rattle.wh_html.specs.declared.page.Task.{Task}
 use Rattle.wh_view.specs.declared.view.View.{View}
 use Rattle.wh_view.specs.declared.view.ViewedEvent.{ViewedEvent}
 use Rattle.wh_run_page.specs.declared.said.Said.{Said}
 use Rattle.wh_run_page.specs.declared.tasks.Group.{Group}
 use Rattle.wh_run_page.specs.Laws.{written_out, FollowOn, BeginsApart, AreApart, AreRuns, GroupsAreRuns, LinesAreAllEvents}
 use Rattle.wh_run_page.specs.Moments.{times_of}
-use Rattle.wh_run_page.specs.Pages.{timed_page, page_of}
+use Rattle.wh_run_page.specs.Pages.{timed_page, IsPageOf}
 use Rattle.wh_run_page.specs.Tasks.{closed_by, groups_from, groups_of, next_group, events_of, line_if, lines_of, task_of, task_at, tasks_of}
 
 -- the groups after one so far and these numbers
@@ -136,11 +136,12 @@ lines-of-tasks view times fault (group ∷ groups) =
 
 pub lines_are_all_events : LinesAreAllEvents
 unfolding timed_page count_of
-lines_are_all_events view said alike =
+lines_are_all_events view said page own alike =
     let times = times_of view.events in
     let groups = groups_of view.tasks in
     let runs = groups_are_runs view.tasks in
     let all : length view.events ≤ count_of groups = let e = ap length runs.all in omega arith in
-    lines-of-tasks view times said.place groups
+    ap (λ one. flat_map (λ task. task.lines) one.tasks) own.is
+    ∙ lines-of-tasks view times said.place groups
     ∙ lines-joined view said.place view.events groups
     ∙ ap (lines_of view said.place) (joined view.events groups 0 runs.follow ∙ take_all (count_of groups) view.events all)

@@ -2,7 +2,11 @@
 use Rattle.std.proofs.Common.{◌≡◌, ℕ, ◌+◌, ◌<◌, ◌≤◌, true, false, cond, List, [], ◌∷◌, ◌++◌, length, get_or, drop, add-one, refl, sym, ap, ◌∙◌, Option, Some, None, append_assoc, append-nil, drop_of_length-le}
 use Rattle.std.specs.Prelude.{ℤ}
 use Rattle.std.proofs.Math.Seq.{drop-cons}
+use Rattle.wh_view.specs.declared.view.View.{View}
 use Rattle.wh_view.specs.declared.view.ViewedEvent.{ViewedEvent}
+use Rattle.wh_view.specs.declared.view.ViewedThing.{ViewedThing}
+use Rattle.wh_run_page.specs.declared.rows.PlacedThing.{PlacedThing}
+use Rattle.wh_run_page.specs.Rows.{placed_at, placed_from}
 use Rattle.wh_run_page.specs.declared.headings.Sought.{Sought}
 use Rattle.wh_run_page.specs.declared.tasks.Group.{Group}
 use Rattle.wh_run_page.specs.Headings.{first_like, is_sought}
@@ -88,3 +92,13 @@ pub groups_all : (numbers : List ℕ) (i : ℕ) (group : Group) (before : List G
     → before ++ groups_from group (drop i numbers) ≡ before ++ group ∷ []
 unfolding groups_from
 groups_all numbers i group before past = ap (λ rest. before ++ groups_from group rest) (drop_of_length-le numbers past)
+
+-- the things so far with their rows and those of the rest
+pub placed_more : (view : View) (all : List ViewedThing) (firsts : List ℕ) (i : ℕ) (thing : ViewedThing) (before grown : List PlacedThing)
+    → i < length all → thing ≡ get_or all i thing → grown ≡ before ++ placed_at view all firsts i thing ∷ []
+    → grown ++ placed_from view all firsts (i + 1) (drop (i + 1) all) ≡ before ++ placed_from view all firsts i (drop i all)
+placed_more view all firsts i thing before grown below is more =
+    let own = placed_at view all firsts i thing in
+    let rest = placed_from view all firsts (i + 1) (drop (i + 1) all) in
+    let at : placed_from view all firsts i (drop i all) ≡ own ∷ rest = ap (placed_from view all firsts i) (next_of all i thing below is) in
+    ap (λ xs. xs ++ rest) more ∙ append_assoc before (own ∷ []) rest ∙ ap (λ xs. before ++ xs) (sym at)

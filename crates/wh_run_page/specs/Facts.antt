@@ -1,7 +1,7 @@
 -- The facts that a page states of a run above its picture, and the notes below.
 use Rattle.std.specs.Prelude.{Option, Some, None, ℕ, Bool, ◌-◌, ◌==◌, not, count_by, get_or, length, slice_get, if◌then◌else◌, List, [], ◌∷◌, ◌++◌, codes, decimal}
 use Rattle.wh_html.specs.Times.{stamp_text, span_text}
-use Rattle.wh_timeline.specs.declared.page.Fact.{Fact}
+use Rattle.wh_html.specs.declared.page.Fact.{Fact}
 use Rattle.wh_view.specs.declared.view.View.{View}
 use Rattle.wh_view_report.specs.Texts.{completed_count, workflow_type}
 use Rattle.wh_view_report.specs.Words.{mark_words}

@@ -3,17 +3,18 @@ use Rattle.std.specs.Prelude.{ℕ, ◌==◌, Bool, false, if◌then◌else◌, O
 use Rattle.std.specs.Option.{option_map}
 use Rattle.wh_events.specs.declared.kind.EventKind.{EventKind}
 use Rattle.wh_events.specs.declared.kind.EventKind.TheVariants as events
-use Rattle.wh_timeline.specs.declared.page.Kind.{Kind}
-use Rattle.wh_timeline.specs.declared.page.Kind.TheVariants as kinds
-use Rattle.wh_timeline.specs.declared.page.ThingOutcome.{ThingOutcome}
-use Rattle.wh_timeline.specs.declared.page.ThingOutcome.TheVariants as outcomes
-use Rattle.wh_timeline.specs.declared.page.Lane.{Lane}
+use Rattle.wh_html.specs.declared.page.Kind.{Kind}
+use Rattle.wh_html.specs.declared.page.Kind.TheVariants as kinds
+use Rattle.wh_html.specs.declared.page.ThingOutcome.{ThingOutcome}
+use Rattle.wh_html.specs.declared.page.ThingOutcome.TheVariants as outcomes
+use Rattle.wh_html.specs.declared.page.Lane.{Lane}
 use Rattle.wh_view.specs.declared.view.View.{View}
 use Rattle.wh_view.specs.declared.view.ViewedEvent.{ViewedEvent}
 use Rattle.wh_view.specs.declared.view.ViewedThing.{ViewedThing}
 use Rattle.wh_view.specs.declared.view.ThingKind.{ThingKind}
 use Rattle.wh_view.specs.declared.view.ThingKind.TheVariants as things
 use Rattle.wh_view.specs.Lookups.{event_id, event_type}
+use Rattle.wh_run_page.specs.declared.rows.PlacedThing.{PlacedThing}
 use Rattle.wh_run_page.specs.Moments.{event_at, moment_of, moment_or}
 use Rattle.wh_run_page.specs.Words.{after_label}
 
@@ -114,9 +115,10 @@ is_index at (Some index) = index == at
 abbrev pub later_end : ViewedThing → Option ℕ
 later_end thing = if is_index thing.opened thing.ended then None else thing.ended
 
--- the lane of a thing: its events are those of the thing
-unfoldable pub lane_of : View → List ℕ → ViewedThing → Lane
-lane_of view times thing =
+-- the lane of a thing with its row: its events are those of the thing
+unfoldable pub lane_of : View → List ℕ → PlacedThing → Lane
+lane_of view times placed =
+    let thing = placed.thing in
     let opening = event_at view.events (Some thing.opened) in
     let starting = event_at view.events thing.started in
     let ending = event_at view.events thing.ended in
@@ -130,8 +132,10 @@ lane_of view times thing =
       outcome = outcome_at ending;
       words = outcome_words ending;
       attempts = attempt_at starting;
+      row = placed.row;
+      part = placed.part;
     }
 
--- the lanes of all things
-abbrev pub lanes_of : View → List ℕ → List Lane
-lanes_of view times = map (lane_of view times) view.things
+-- the lanes of things with their rows
+abbrev pub lanes_of : View → List ℕ → List PlacedThing → List Lane
+lanes_of view times placed = map (lane_of view times) placed

@@ -1,10 +1,13 @@
 -- What holds of every page of a run.
-use Rattle.std.specs.Prelude.{◌≡◌, ◌≢◌, ℕ, ◌+◌, ◌<◌, Option, List, [], ◌∷◌, length, replicate}
-use Rattle.std.specs.List.{flat_map}
+use Rattle.std.specs.Prelude.{◌≡◌, ◌≢◌, ℕ, ◌+◌, ◌<◌, ◌≤◌, true, List, [], ◌∷◌, length, replicate}
+use Rattle.std.specs.List.{flat_map, list_any}
 use Rattle.wh_view.specs.declared.view.View.{View}
 use Rattle.wh_run_page.specs.declared.said.Said.{Said}
 use Rattle.wh_run_page.specs.declared.tasks.Group.{Group}
-use Rattle.wh_run_page.specs.Pages.{page_of}
+use Rattle.wh_html.specs.declared.page.Page.{Page}
+use Rattle.wh_run_page.specs.Choices.{is_hit}
+use Rattle.wh_run_page.specs.Moments.{index_at}
+use Rattle.wh_run_page.specs.Pages.{IsPageOf}
 use Rattle.wh_run_page.specs.Tasks.{groups_of, lines_of}
 
 -- groups written out: the number of the task of each, once for each of its events
@@ -39,5 +42,16 @@ GroupsAreRuns = (numbers : List ℕ) → AreRuns numbers (groups_of numbers)
 -- if the view has a task for each event, the lines of all tasks are those of all events
 abbrev pub LinesAreAllEvents : Type 0
 LinesAreAllEvents =
-    (view : View) (said : Said) → length view.tasks ≡ length view.events
-    → flat_map (λ task. task.lines) (page_of view said).tasks ≡ lines_of view said.place view.events
+    (view : View) (said : Said) (page : Page) → IsPageOf view said page → length view.tasks ≡ length view.events
+    → flat_map (λ task. task.lines) page.tasks ≡ lines_of view said.place view.events
+
+-- a page shows 300 things at most
+abbrev pub ThingsAreFew : Type 0
+ThingsAreFew = (view : View) (said : Said) (page : Page) → IsPageOf view said page → length page.lanes ≤ 300
+
+-- if the event of the fault opened, started or ended a thing, such a thing is shown
+abbrev pub FaultIsShown : Type 0
+FaultIsShown =
+    (view : View) (said : Said) (page : Page) → (own : IsPageOf view said page)
+    → list_any (is_hit (index_at said.place)) view.things ≡ true
+    → list_any (is_hit (index_at said.place)) own.shown ≡ true

@@ -1,6 +1,8 @@
 pub mod Moments
 pub mod Words
 pub mod Lanes
+pub mod Choices
+pub mod Rows
 pub mod Headings
 pub mod Tasks
 pub mod Facts

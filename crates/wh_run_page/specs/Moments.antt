@@ -3,7 +3,7 @@ use Rattle.std.specs.Prelude.{ℕ, ◌+◌, ◌-◌, ◌/◌, min, get_or, ℤ, 
 use Rattle.wh_html.specs.Times.{last_time}
 use Rattle.wh_json.specs.declared.fault.ReadFault.{ReadFault}
 use Rattle.wh_json.specs.declared.fault.ReadFault.TheVariants.{OutOfOrder}
-use Rattle.wh_timeline.specs.declared.page.Moment.{Moment}
+use Rattle.wh_html.specs.declared.page.Moment.{Moment}
 use Rattle.wh_view.specs.declared.view.ViewedEvent.{ViewedEvent}
 use Rattle.wh_view.specs.Lookups.{index_of}
 

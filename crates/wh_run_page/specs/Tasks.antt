@@ -1,10 +1,10 @@
 -- The workflow tasks of a run, as those of its page.
 use Rattle.std.specs.Prelude.{ℕ, ◌+◌, ◌==◌, ◌&&◌, Bool, true, false, not, if◌then◌else◌, Option, Some, None, List, [], ◌∷◌, ◌++◌, map, take, drop, slice_get}
 use Rattle.std.specs.List.{flat_map, list_any}
-use Rattle.wh_timeline.specs.declared.page.TaskLine.{TaskLine}
-use Rattle.wh_timeline.specs.declared.page.Task.{Task}
-use Rattle.wh_timeline.specs.declared.page.Side.{Side}
-use Rattle.wh_timeline.specs.declared.page.Side.TheVariants as sides
+use Rattle.wh_html.specs.declared.page.TaskLine.{TaskLine}
+use Rattle.wh_html.specs.declared.page.Task.{Task}
+use Rattle.wh_html.specs.declared.page.Side.{Side}
+use Rattle.wh_html.specs.declared.page.Side.TheVariants as sides
 use Rattle.wh_view.specs.declared.parts.EventUse.{EventUse}
 use Rattle.wh_view.specs.declared.parts.EventUse.TheVariants as words
 use Rattle.wh_view.specs.declared.view.View.{View}

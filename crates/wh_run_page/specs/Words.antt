@@ -11,6 +11,11 @@ abbrev pub after_label : List ℕ → List ℕ → List ℕ
 after_label label [] = []
 after_label label (c ∷ cs) = label ++ c ∷ cs
 
+-- what an event opens: its type with its id, or else its id alone
+abbrev pub thing_text : (type_name id : List ℕ) → List ℕ
+thing_text [] id = after_label (codes " ") id
+thing_text (c ∷ cs) id = codes " " ++ (c ∷ cs ++ after_label (codes " #") id)
+
 -- a value of an event
 abbrev pub value_text : List ℕ → List ℕ
 value_text value = codes "; " ++ value
@@ -20,9 +25,8 @@ value_text value = codes "; " ++ value
 unfoldable pub event_words : View → ViewedEvent → List ℕ
 event_words view event =
     event.read.name
-    ++ (after_label (codes " ") (event_id (opening_of view event))
-    ++ (after_label (codes " ") (event_type (opening_of view event))
+    ++ (thing_text (event_type (opening_of view event)) (event_id (opening_of view event))
     ++ (attempt_text event.attempt
     ++ (after_label (codes ", ") event.duration
     ++ (after_label (codes ", because ") event.failure
-    ++ (after_label (codes ", ") (mark_words view event) ++ flat_map value_text event.payloads))))))
+    ++ (after_label (codes ", ") (mark_words view event) ++ flat_map value_text event.payloads)))))

@@ -6,8 +6,7 @@ ghost use Rattle.wh_run_page.specs.Facts as facts;
 use crate::words::copy_text;
 use std::alloc::Global;
 use wh_events::{OutOfMemory, Text};
-use wh_html::{Stamp, TimeSpan};
-use wh_timeline::Fact;
+use wh_html::{Fact, Stamp, TimeSpan};
 use wh_view::View;
 use wh_view_report::{completed_count, mark_of, workflow_type};
 

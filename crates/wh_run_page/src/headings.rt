@@ -3,7 +3,7 @@
 ghost use Rattle.std.specs.Prelude.{◌≡◌, Some, IfOk, option_map};
 ghost use Rattle.wh_run_page.specs.Headings as headings;
 
-use crate::words::AfterLabel;
+use crate::words::ThingWords;
 use std::alloc::Global;
 use std::fmt;
 use wh_events::{EventKind, OutOfMemory, Text};
@@ -89,9 +89,9 @@ impl fmt::Display for First<'_> {
             Some(event) => {
                 let label = self.label;
                 let name = event.read.name.get();
-                let id = AfterLabel(" ", self.view.opening_of(event).id());
+                let thing = ThingWords(self.view.opening_of(event));
                 let more = MoreCount(self.count);
-                write!(f, "{label}{name}{id}{more}")
+                write!(f, "{label}{name}{thing}{more}")
             }
             None => Ok(()),
         }

@@ -4,14 +4,15 @@ ghost use Rattle.std.specs.Prelude.{◌≡◌, IfOk, option_map};
 ghost use Rattle.wh_run_page.specs.Lanes as lanes;
 
 use crate::moments::{event_at, moment_if, moment_or};
+use crate::rows::PlacedThing;
 use crate::words::{AfterLabel, copy_text};
 use std::alloc::Global;
 use wh_events::{EventKind, OutOfMemory, Text};
-use wh_timeline::{Kind, Lane, ThingOutcome};
+use wh_html::{Kind, Lane, ThingOutcome};
 use wh_view::{ThingKind, View, ViewedEvent, ViewedThing};
 
 /// Returns the kind of a lane.
-fn lane_kind(kind: ThingKind) -> Kind
+pub(crate) fn lane_kind(kind: ThingKind) -> Kind
     ensures { result ≡ lanes.lane_kind kind }
 {
     match kind {
@@ -70,7 +71,7 @@ fn outcome_word(kind: &EventKind) -> &'static str
 }
 
 /// Returns the outcome of a thing, by the event that ended it, if there is one.
-fn outcome_at(ending: Option<&ViewedEvent>) -> ThingOutcome
+pub(crate) fn outcome_at(ending: Option<&ViewedEvent>) -> ThingOutcome
     ensures { result ≡ lanes.outcome_at (option_map (λ e. e.now) ending.entry) }
 {
     let Some(event) = ending else {
@@ -105,7 +106,7 @@ fn outcome_words(alloc: Global, ending: Option<&ViewedEvent>) -> Result<Text, Ou
 }
 
 /// Returns the id of what an event opened; empty if there is no event.
-fn id_at<'v>(opening: Option<&'v ViewedEvent>) -> &'v str
+pub(crate) fn id_at<'v>(opening: Option<&'v ViewedEvent>) -> &'v str
     ensures { result.now ≡ lanes.id_at (option_map (λ e. e.now) opening.entry) }
 {
     match opening {
@@ -115,7 +116,7 @@ fn id_at<'v>(opening: Option<&'v ViewedEvent>) -> &'v str
 }
 
 /// Returns the type of what an event opened; empty if there is no event.
-fn type_at<'v>(opening: Option<&'v ViewedEvent>) -> &'v str
+pub(crate) fn type_at<'v>(opening: Option<&'v ViewedEvent>) -> &'v str
     ensures { result.now ≡ lanes.type_at (option_map (λ e. e.now) opening.entry) }
 {
     match opening {
@@ -149,8 +150,8 @@ fn attempt_at(starting: Option<&ViewedEvent>) -> Option<u64>
 }
 
 /// Returns the index of the event that ended a thing, unless the same event opened it.
-fn later_end(thing: ViewedThing) -> Option<usize>
-    ensures { result ≡ lanes.later_end thing }
+fn later_end(thing: &ViewedThing) -> Option<usize>
+    ensures { result ≡ lanes.later_end thing.now }
 {
     match thing.ended {
         Some(index) => if index == thing.opened {
@@ -162,16 +163,17 @@ fn later_end(thing: ViewedThing) -> Option<usize>
     }
 }
 
-/// Returns the lane of a thing.
+/// Returns the lane of a thing with its row.
 #[tactic(auto, unfolding(crate::specs::Lanes::lane_of))]
 fn lane_of(
     alloc: Global,
     view: &View,
     times: &[u64],
-    thing: ViewedThing,
+    placed: &PlacedThing,
 ) -> Result<Lane, OutOfMemory>
-    ensures { IfOk result (λ lane. lane ≡ lanes.lane_of view.now times.now thing) }
+    ensures { IfOk result (λ lane. lane ≡ lanes.lane_of view.now times.now placed.now) }
 {
+    let thing = &placed.thing;
     let events = view.events.get();
     let opening = event_at(events, Some(thing.opened));
     let starting = event_at(events, thing.started);
@@ -189,16 +191,23 @@ fn lane_of(
         outcome: outcome_at(ending),
         words,
         attempts: attempt_at(starting),
+        row: placed.row,
+        part: placed.part,
     })
 }
 
-/// Returns the lanes of all things.
-pub(crate) fn lanes_of(alloc: Global, view: &View, times: &[u64]) -> Result<Vec<Lane>, OutOfMemory>
-    ensures { IfOk result (λ all. all.items ≡ lanes.lanes_of view.now times.now) }
+/// Returns the lanes of things with their rows.
+pub(crate) fn lanes_of(
+    alloc: Global,
+    view: &View,
+    times: &[u64],
+    placed: &[PlacedThing],
+) -> Result<Vec<Lane>, OutOfMemory>
+    ensures { IfOk result (λ all. all.items ≡ lanes.lanes_of view.now times.now placed.now) }
 {
     let mut all = Vec::new(alloc);
-    for thing in view.things.get() {
-        let lane = lane_of(alloc, view, times, *thing)?;
+    for thing in placed {
+        let lane = lane_of(alloc, view, times, thing)?;
         all.push(lane)?;
     }
     Ok(all)

@@ -1,5 +1,5 @@
 //! What holds of every page of a run, each law as the contract of a function that does nothing.
-ghost use Rattle.wh_run_page.specs.Laws.{GroupsAreRuns, LinesAreAllEvents};
+ghost use Rattle.wh_run_page.specs.Laws.{GroupsAreRuns, LinesAreAllEvents, ThingsAreFew, FaultIsShown};
 
 /// If each group is written out as the number of its task, once for each of its events, the result
 /// is the list of the tasks to which the events belong, in their order. No two adjacent groups are
@@ -13,4 +13,11 @@ pub fn groups_are_runs()
 /// has a line is left out of the tasks, and none is in two.
 pub fn lines_are_all_events()
     ensures { LinesAreAllEvents }
+{}
+
+/// A page shows no more than 300 things. If the event of the fault opened, started or ended a
+/// thing, the page shows such a thing.
+pub fn faults_are_shown()
+    ensures few { ThingsAreFew }
+    ensures fault { FaultIsShown }
 {}

@@ -3,12 +3,14 @@
 //! as they are; they are escaped when the page is written.
 #![tactic(auto)]
 
+mod choosing;
 mod facts;
 mod headings;
 mod lanes;
 pub mod laws;
 mod moments;
 mod page;
+mod rows;
 mod said;
 mod tasks;
 mod words;

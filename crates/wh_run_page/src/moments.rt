@@ -5,9 +5,8 @@ ghost use Rattle.wh_run_page.specs.Moments as moments;
 
 use std::alloc::Global;
 use wh_events::{EventNo, OutOfMemory};
-use wh_html::LAST_TIME;
+use wh_html::{LAST_TIME, Moment};
 use wh_json::ReadFault;
-use wh_timeline::Moment;
 use wh_view::ViewedEvent;
 
 /// The moment of no event.

@@ -3,23 +3,33 @@
 ghost use Rattle.std.specs.Prelude.{◌≡◌, IfOk};
 ghost use Rattle.wh_run_page.specs.Pages as pages;
 
+use crate::choosing::chosen_things;
 use crate::facts::{facts_of, notes_of};
 use crate::lanes::lanes_of;
 use crate::moments::{event_at, index_at, moment_if, times_of};
+use crate::rows::{firsts_of, placed_things, row_count};
 use crate::said::Said;
 use crate::tasks::tasks_of;
 use std::alloc::Global;
 use wh_events::{Items, OutOfMemory};
-use wh_timeline::Page;
-use wh_view::View;
+use wh_html::Page;
+use wh_view::{View, ViewedThing};
 
-/// Makes the page of a run whose events have these times.
+/// Makes the page of a run whose events have these times, with these of its things.
 #[tactic(auto, unfolding(crate::specs::Pages::timed_page))]
-fn timed_page(alloc: Global, view: &View, times: &[u64], said: Said) -> Result<Page, OutOfMemory>
-    ensures { IfOk result (λ page. page ≡ pages.timed_page view.now times.now said) }
+fn timed_page(
+    alloc: Global,
+    view: &View,
+    times: &[u64],
+    said: Said,
+    shown: &[ViewedThing],
+) -> Result<Page, OutOfMemory>
+    ensures { IfOk result (λ page. page ≡ pages.timed_page view.now times.now said shown.now) }
 {
     let facts = Items::new(facts_of(alloc, view, times)?);
-    let lanes = Items::new(lanes_of(alloc, view, times)?);
+    let firsts = firsts_of(alloc, view, shown)?;
+    let placed = placed_things(alloc, view, shown, firsts.as_slice())?;
+    let lanes = Items::new(lanes_of(alloc, view, times, placed.as_slice())?);
     let tasks = Items::new(tasks_of(alloc, view, times, said.place)?);
     let notes = Items::new(notes_of(alloc, view, said.note)?);
     let fault = moment_if(times, event_at(view.events.get(), index_at(said.place)));
@@ -31,6 +41,8 @@ fn timed_page(alloc: Global, view: &View, times: &[u64], said: Said) -> Result<P
         difference: said.difference,
         fault,
         lanes,
+        rows: row_count(firsts.as_slice()),
+        things: view.things.get().len(),
         tasks,
         notes,
     })
@@ -42,6 +54,9 @@ fn timed_page(alloc: Global, view: &View, times: &[u64], said: Said) -> Result<P
 /// the place in `said`. Each thing of the view has a lane, in the order of the view: with the id
 /// and the type of the event that opened it, the moments of the events that opened, started and
 /// ended it, the outcome by the event that ended it, and the attempt of the event that started it.
+/// Of more than 300 things those have one that have the event of the fault, then those that failed
+/// or are open, and then the slowest. Each has its own row of the picture; of more than 40 lanes
+/// those of one type share a row.
 /// Adjacent events that belong to one task are one task of the page. Each of them has a line,
 /// except `WorkflowTaskScheduled` and `WorkflowTaskStarted`; the sides of the lines separate
 /// activation jobs, commands, and what else is recorded. The event of the fault always has a line,
@@ -51,8 +66,9 @@ fn timed_page(alloc: Global, view: &View, times: &[u64], said: Said) -> Result<P
 ///
 /// Returns `OutOfMemory` if there is no memory for the page.
 pub fn page_of(alloc: Global, view: &View, said: Said) -> Result<Page, OutOfMemory>
-    ensures { IfOk result (λ page. page ≡ pages.page_of view.now said) }
+    ensures { IfOk result (λ page. pages.IsPageOf view.now said page) }
 {
     let times = times_of(alloc, view.events.get())?;
-    timed_page(alloc, view, times.as_slice(), said)
+    let shown = chosen_things(alloc, view, times.as_slice(), index_at(said.place))?;
+    timed_page(alloc, view, times.as_slice(), said, shown.as_slice())
 }

@@ -1,7 +1,7 @@
 //! What is said of a run on its page.
 
 use wh_events::Text;
-use wh_timeline::Difference;
+use wh_html::Difference;
 
 /// What a page says of a run beside what its history holds.
 #[derive(Drop)]

@@ -9,7 +9,7 @@ use crate::moments::{moment_or, number_of};
 use crate::words::event_words;
 use std::alloc::Global;
 use wh_events::{Items, OutOfMemory};
-use wh_timeline::{Side, Task, TaskLine, first_items};
+use wh_html::{Side, Task, TaskLine, first_items};
 use wh_view::{EventUse, View, ViewedEvent};
 use wh_view_report::is_quiet;
 

@@ -4,6 +4,7 @@ ghost use Rattle.std.specs.Prelude.{◌≡◌, Some, IfOk};
 ghost use Rattle.std.specs.Fmt.{DisplaysOnOk};
 ghost use Rattle.std.specs.List.{flat_map};
 ghost use Rattle.wh_run_page.specs.Words as words;
+ghost use Rattle.wh_view.specs.Lookups.{event_id, event_type};
 
 use std::alloc::Global;
 use std::fmt;
@@ -25,6 +26,24 @@ impl fmt::Display for AfterLabel<'_> {
         let label = self.0;
         let text = self.1;
         write!(f, "{label}{text}")
+    }
+}
+
+/// What an event opens: its type with its id, or else its id alone.
+#[derive(Drop)]
+pub(crate) struct ThingWords<'a>(pub(crate) &'a ViewedEvent);
+
+impl fmt::Display for ThingWords<'_> {
+    ghost output = { λ t. Some (words.thing_text (event_type t.0.now) (event_id t.0.now)) };
+
+    fn fmt<W: fmt::Write>(&self, f: &mut fmt::Formatter<W>) -> fmt::Result {
+        let type_name = self.0.type_name();
+        if type_name.is_empty() {
+            let id = AfterLabel(" ", self.0.id());
+            return write!(f, "{id}");
+        }
+        let id = AfterLabel(" #", self.0.id());
+        write!(f, " {type_name}{id}")
     }
 }
 
@@ -62,14 +81,13 @@ pub(crate) fn event_words(
 {
     let opening = view.opening_of(event);
     let name = event.read.name.get();
-    let id = AfterLabel(" ", opening.id());
-    let kind = AfterLabel(" ", opening.type_name());
+    let thing = ThingWords(opening);
     let attempt = Attempt(event.attempt);
     let duration = AfterLabel(", ", event.duration.get());
     let failure = AfterLabel(", because ", event.failure.get());
     let mark = AfterLabel(", ", mark_of(view, event));
     let values = Values(event.payloads.get());
-    Ok(Text::new(format!(in alloc; "{name}{id}{kind}{attempt}{duration}{failure}{mark}{values}")?))
+    Ok(Text::new(format!(in alloc; "{name}{thing}{attempt}{duration}{failure}{mark}{values}")?))
 }
 
 /// Copies a text.

@@ -5,7 +5,7 @@ use Rattle.wh_events.specs.Places.{history_fault}
 use Rattle.wh_events.specs.declared.event.Event.{Event}
 use Rattle.wh_events.specs.declared.memory.OutOfMemory.{OutOfMemory}
 use Rattle.wh_events.specs.declared.place.PlaceFault.{PlaceFault}
-use Rattle.wh_explain.specs.Explaining.{unknown_in, unknown_placed}
+use Rattle.wh_tester.specs.UnknownTypes.{unknown_in, unknown_placed}
 use Rattle.wh_json.specs.Events.{document_within, history}
 use Rattle.wh_json.specs.declared.fault.ReadFault.{ReadFault}
 use Rattle.wh_json.specs.declared.fault.ReadFault.TheVariants.{BadJson}

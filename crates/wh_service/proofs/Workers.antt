@@ -4,7 +4,7 @@ use Rattle.std.specs.Prelude.{All, Bool, Vec, is_none, get_or, Option, Result, O
 use Rattle.std.specs.declared.alloc.Global.{Global}
 use Rattle.std.specs.List.{list_all, list_any}
 use Rattle.std.proofs.lemmas.List.{length-map}
-use Rattle.wh_host.specs.declared.config.Config.{Config}
+use Rattle.wh_slots.specs.declared.sizes.Config.{Config}
 use Rattle.wh_host.specs.declared.reply.Totals.{Totals}
 use Rattle.wh_recorded.specs.Rounds.{Stage, opening_stage, has_last_record}
 use Rattle.wh_service.specs.declared.rows.FileRow.{FileRow}

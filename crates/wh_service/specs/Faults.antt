@@ -3,7 +3,7 @@ use Rattle.std.specs.Prelude.{◌≡◌, ◌≢◌, ℕ, List, [], ◌∷◌, Op
 use Rattle.std.specs.List.{AllZip, flat_map}
 use Rattle.wh_events.specs.Places.{history_fault}
 use Rattle.wh_events.specs.declared.event.Event.{Event}
-use Rattle.wh_explain.specs.Explaining.{unknown_in}
+use Rattle.wh_tester.specs.UnknownTypes.{unknown_in}
 use Rattle.wh_file_faults.specs.Details.{mark_of, no_code}
 use Rattle.wh_file_faults.specs.Faults.{File, IsNotJson}
 use Rattle.wh_file_faults.specs.declared.detail.FaultDetail.{FaultDetail}

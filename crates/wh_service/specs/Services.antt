@@ -8,9 +8,9 @@ use Rattle.wh_file_faults.specs.Made.{IsFaultIn}
 use Rattle.wh_console.specs.declared.files.InputFault.{InputFault}
 use Rattle.wh_file_faults.specs.declared.command_fault.CommandFault.TheVariants.{OutOfMemory}
 use Rattle.wh_json.specs.declared.fault.ReadFault.{ReadFault}
-use Rattle.wh_host.specs.declared.config.Config.{Config}
+use Rattle.wh_slots.specs.declared.sizes.Config.{Config}
 use Rattle.wh_host.specs.declared.reply.Totals.{Totals}
-use Rattle.wh_host.specs.Machine.{IsConfig}
+use Rattle.wh_slots.specs.Sizes.{IsConfig}
 use Rattle.wh_tasks.specs.Failures.{not_found}
 use Rattle.wh_tasks.specs.declared.handler.NoActivities.{NoActivities}
 use Rattle.wh_tasks.specs.declared.source.ActivityAnswer.TheVariants.{Failed}

@@ -7,9 +7,9 @@ ghost use Rattle.wh_service.specs.Faults.{HasHistory, IsCodeDetail, IsFaultOf, r
 
 use std::alloc::Global;
 use wh_events::{OutOfMemory, Text};
-use wh_explain::unknown_type;
 use wh_file_faults::{FaultDetail, json_detail};
 use wh_machines::Track;
+use wh_tester::unknown_type;
 use wh_workflow::Workflow;
 
 /// A file that is not JSON or whose workflow type is not registered.

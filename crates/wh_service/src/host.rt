@@ -1,7 +1,7 @@
 //! The host of a service.
 
 ghost use Rattle.std.specs.Prelude.{◌≡◌, IfOk, vec_len};
-ghost use Rattle.wh_host.specs.Machine.{IsConfig};
+ghost use Rattle.wh_slots.specs.Sizes.{IsConfig};
 ghost use Rattle.wh_service.specs.Services.{IsHosted};
 
 use std::alloc::Global;

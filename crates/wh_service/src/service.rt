@@ -1,7 +1,7 @@
 //! Recorded histories are served by a host, and the report is written.
 
 ghost use Rattle.std.specs.Prelude.{◌≡◌, ◌≢◌, Ok, Err, IfOk, IfErr, All, map, vec_len};
-ghost use Rattle.wh_host.specs.Machine.{IsConfig};
+ghost use Rattle.wh_slots.specs.Sizes.{IsConfig};
 ghost use Rattle.wh_service.specs.Faults.{AreFaultsOf};
 ghost use Rattle.wh_service.specs.Readings.{reading, reading_of, readings_of};
 ghost use Rattle.wh_service.specs.Services.{HasItsTurns, IsEndOf, IsHost, IsHosted, IsServed, IsServiceEnd, IsServiceEndOver, IsServiceOf, IsUnserved, IsUnwritten, leaves, status_of};

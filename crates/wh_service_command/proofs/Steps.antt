@@ -3,15 +3,16 @@ use Rattle.std.proofs.Common.{◌≡◌, ◌∙◌, inr, ℕ, List, length, map,
 use Rattle.std.specs.Prelude.{Bool, false, Option, Result, Ok, Err, IfErr, IfOk}
 use Rattle.std.specs.Io.KnownBytes.{Keeps}
 use Rattle.wh_console.proofs.Printing.{quiet_twice, written_kept}
-use Rattle.wh_console.specs.Consoles.{ConsoleView, Reported}
+use Rattle.wh_console.specs.Consoles.{ConsoleView, IsQuiet, Reported}
 use Rattle.wh_diagnostics.proofs.ReadFailures.{unread_unreported}
 use Rattle.wh_diagnostics.specs.Failures.{IsReadFailure, IsReportFailure}
 use Rattle.wh_diagnostics.specs.Printing.{status_with}
 use Rattle.wh_diagnostics.specs.declared.failures.Failure.{Failure}
+use Rattle.wh_diagnostics.specs.declared.failures.Failure.TheVariants.{Output}
 use Rattle.wh_service.specs.Faults.{AreFaultsOf}
 use Rattle.wh_console.specs.Inputs.{IsReadFrom}
 use Rattle.wh_console.specs.declared.files.Input.{Input}
-use Rattle.wh_host.specs.declared.config.Config.{Config}
+use Rattle.wh_slots.specs.declared.sizes.Config.{Config}
 use Rattle.wh_diagnostics.specs.Listings.{IsListed, lacks_files}
 use Rattle.wh_diagnostics.specs.Readings.{Gives, IsReadAs}
 use Rattle.wh_diagnostics.proofs.Batched.{stopped_after_all, stopped_whole, told_in_all, HasAMarkEach}
@@ -26,7 +27,7 @@ use Rattle.wh_service.specs.Services.{HostsBy, IsEndOf, IsHosted, IsServiceEnd}
 use Rattle.wh_service.specs.declared.readings.ReadFiles.{ReadFiles}
 use Rattle.wh_service.specs.declared.service.PendingReport.{PendingReport}
 use Rattle.wh_service.specs.declared.service.ServiceEnd.{ServiceEnd}
-use Rattle.wh_service_command.specs.Commands.{faulty_in, HasFinished, HasNotServed, HasNotServedFolder, HasReadAll, HasServed, HasServedAll, HasServedFolder, IsCutOff}
+use Rattle.wh_service_command.specs.Commands.{faulty_in, HasFinished, HasNotServed, HasNotServedFolder, HasReadAll, HasServed, HasServedAll, HasServedFolder}
 use Rattle.wh_workflow.specs.Law.{Program}
 
 -- what was written of a service stays
@@ -93,7 +94,7 @@ pub cut_off : {S : Type 0} (gives : Gives) (program : Program S) (hosts : HostsB
     → lines ≡ reported_batches mode (length inputs)
     → HasServed gives program hosts config inputs mode old read served
     → Reported read first (end_text mode lines)
-    → IsCutOff first new failure
+    → (failure ≡ Output) × IsQuiet first new
     → HasNotServed gives program inputs mode old new failure
 cut_off gives program hosts config inputs mode lines old read first new served failure many h erased cut = record {
   between = first;
@@ -121,7 +122,7 @@ pub cut_off_if : {S : Type 0} (gives : Gives) (program : Program S) (hosts : Hos
     → lines ≡ reported_batches mode (length inputs)
     → HasServed gives program hosts config inputs mode old read served
     → Reported read first (end_text mode lines)
-    → IfErr answer (IsCutOff first new)
+    → IfErr answer (λ failure. (failure ≡ Output) × IsQuiet first new)
     → IfErr answer (HasNotServed gives program inputs mode old new)
 cut_off_if gives program hosts config inputs mode lines old read first new served (Ok status) many h erased cut = tt
 cut_off_if gives program hosts config inputs mode lines old read first new served (Err failure) many h erased cut =

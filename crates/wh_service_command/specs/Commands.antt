@@ -10,7 +10,7 @@ use Rattle.wh_diagnostics.specs.declared.failures.Failure.TheVariants.{Output}
 use Rattle.wh_file_faults.specs.Faults.{File}
 use Rattle.wh_console.specs.Inputs.{IsReadFrom}
 use Rattle.wh_console.specs.declared.files.Input.{Input}
-use Rattle.wh_host.specs.declared.config.Config.{Config}
+use Rattle.wh_slots.specs.declared.sizes.Config.{Config}
 use Rattle.wh_diagnostics.specs.Listings.{AfterListing, IsListed, IsUnreadAt, lacks_files}
 use Rattle.wh_diagnostics.specs.Readings.{Gives, IsReadAs}
 use Rattle.wh_diagnostics.specs.KnownTypes.{known_types_text}
@@ -59,10 +59,6 @@ pub record HasFinished (types : List ℕ) (served : PendingReport) (lacks : Bool
   pub quiet : IsQuiet old between
   pub written : IsEndOf served old.output between.output end
   pub ended : HasEnded types end lacks between new status
-
--- the report can't be written: nothing more was reported
-abbrev pub IsCutOff : (old new : ConsoleView) → Failure → Type 0
-IsCutOff old new failure = (failure ≡ Output) × IsQuiet old new
 
 -- the files of inputs, in the same order, were read; progress was reported, by which of them have no history that can be
 -- read, and what erases a line of it was written; the report of a service of these files was written, which does not

@@ -1,25 +1,21 @@
 -- What is reported of a service beside its report.
 use Rattle.std.specs.Prelude.{ℕ, List, [], ◌∷◌, ◌++◌, codes, Bool, true, false, Option, Some, None, if◌then◌else◌}
 use Rattle.std.specs.List.{flat_map, list_any}
-use Rattle.wh_diagnostics.specs.Diagnostics.{detail_line, named_line}
+use Rattle.wh_diagnostics.specs.Diagnostics.{named_line}
 use Rattle.wh_diagnostics.specs.KnownTypes.{is_no_code}
+use Rattle.wh_file_faults.specs.DetailTexts.{detail_line}
 use Rattle.wh_service.specs.Repeats.{is_repeat, repeated_text, repeats}
 use Rattle.wh_service.specs.declared.failures.FileFailure.{FileFailure}
 use Rattle.wh_service.specs.declared.file_faults.FileFault.{FileFault}
 use Rattle.wh_service.specs.declared.service.ServiceEnd.{ServiceEnd}
-use Rattle.wh_service_command.specs.declared.diagnostics.ServiceNotes.{ServiceNotes}
 
 -- the workflow type of a file with one of these faults is not registered
 abbrev pub faults_lack_code : List FileFault → Bool
 faults_lack_code faults = list_any (λ fault. is_no_code fault.detail) faults
 
--- the line of a file that is not JSON, or whose workflow type is not registered
-abbrev pub fault_line : FileFault → List ℕ → List ℕ
-fault_line fault name = detail_line fault.name fault.detail name
-
--- one line for each such file
+-- one line for each file that is not JSON, or whose workflow type is not registered
 abbrev pub fault_lines : List FileFault → List ℕ → List ℕ
-fault_lines faults name = flat_map (λ fault. fault_line fault name) faults
+fault_lines faults name = flat_map (λ fault. detail_line fault.name fault.detail name) faults
 
 -- a failed task repeats the one before it, if there is one
 abbrev pub is_reported_before : Option FileFailure → FileFailure → Bool
@@ -54,7 +50,3 @@ abbrev pub service_lines : ServiceEnd → List ℕ → List ℕ
 service_lines end name =
     fault_lines end.file_faults.items name ++ (failure_lines None end.failures.items name
     ++ (worker_lines end.faultless name ++ uncompared_lines end.uncompared name))
-
--- the same of the end that the notes hold
-abbrev pub notes_text : ServiceNotes → List ℕ → List ℕ
-notes_text notes name = service_lines notes.end name

@@ -2,14 +2,16 @@
 
 ghost use Rattle.std.specs.Prelude.{◌≡◌, None, OnOk, option_map};
 ghost use Rattle.std.specs.Io.KnownBytes.{Appends};
-ghost use Rattle.wh_service_command.specs.Diagnostics.{failure_line, failure_lines, fault_line, fault_lines};
+ghost use Rattle.wh_file_faults.specs.DetailTexts.{detail_line};
+ghost use Rattle.wh_service_command.specs.Diagnostics.{failure_line, failure_lines, fault_lines};
 ghost use Rattle.wh_service_command.specs.Diagnostics.{faults_lack_code, is_reported_before};
 ghost use Rattle.wh_service_command.specs.Diagnostics.{service_lines, uncompared_lines, worker_lines};
 
 use std::io;
 use std::io::Write;
 use wh_console::Message;
-use wh_diagnostics::{is_no_code, write_detail, write_line};
+use wh_diagnostics::{is_no_code, write_line};
+use wh_file_faults::write_detail;
 use wh_service::{FileFailure, FileFault, RepeatedFailure, ServiceEnd, is_repeat, repeats};
 use wh_tester::Shown;
 
@@ -29,7 +31,8 @@ pub(crate) fn faults_lack_code(faults: &[FileFault]) -> bool
 
 /// Writes that a file is not JSON, or that its workflow type is not registered.
 fn write_fault<E: Write>(fault: &FileFault, name: &str, writer: &mut E) -> io::Result<()>
-    ensures { OnOk result (Appends (E.contents writer.old) (E.contents writer.new) (fault_line fault.now name.now)) }
+    ensures { OnOk result (Appends (E.contents writer.old) (E.contents writer.new)
+        (detail_line fault.now.name fault.now.detail name.now)) }
 {
     write_detail(fault.name.get(), &fault.detail, name, writer)
 }
@@ -140,9 +143,9 @@ fn write_service<E: Write>(end: ServiceEnd, name: &str, writer: &mut E) -> io::R
 }
 
 impl Message for ServiceNotes {
-    ghost use Rattle.wh_service_command.specs.Diagnostics.{notes_text};
+    ghost use Rattle.wh_service_command.specs.Diagnostics.{service_lines};
 
-    ghost text = { notes_text };
+    ghost text = { λ notes. service_lines notes.end };
 
     fn write<E: Write>(self, name: &str, writer: &mut E) -> io::Result<()> {
         write_service(self.end, name, writer)

@@ -6,10 +6,10 @@ ghost use Rattle.wh_console.specs.Consoles.{IsQuiet};
 ghost use Rattle.wh_diagnostics.specs.Batches.{HasStopped};
 ghost use Rattle.wh_diagnostics.specs.Failures.{IsReadFailure};
 ghost use Rattle.wh_diagnostics.specs.Readings.{IsReadAs};
-ghost use Rattle.wh_host.specs.Machine.{IsConfig};
+ghost use Rattle.wh_slots.specs.Sizes.{IsConfig};
 ghost use Rattle.wh_service.specs.Readings.{HasRead};
 ghost use Rattle.wh_service.specs.Services.{IsEndOf, IsHost, IsHosted, leaves};
-ghost use Rattle.wh_service_command.specs.Commands.{HasEnded, HasFinished, HasNotServed, HasNotServedFolder, HasServed, HasServedAll, HasServedFolder, IsCutOff, faulty_in};
+ghost use Rattle.wh_service_command.specs.Commands.{HasEnded, HasFinished, HasNotServed, HasNotServedFolder, HasServed, HasServedAll, HasServedFolder, faulty_in};
 
 use crate::batches::read_batches;
 use crate::diagnostics::{ServiceNotes, faults_lack_code};
@@ -38,7 +38,7 @@ fn end_service<O: Write, E: Write>(
     console: &mut Console<'_, O, E>,
 ) -> Result<u8, Failure>
     ensures ended { IfOk result (HasEnded types.now end lacks console.old console.new) }
-    ensures cut { IfErr result (IsCutOff console.old console.new) }
+    ensures cut { IfErr result (λ failure. (failure ≡ Failure.Output) × IsQuiet console.old console.new) }
 {
     let status = flush_answer(Ok(end.status), console)?;
     let lacking = faults_lack_code(end.file_faults.as_slice());
@@ -70,7 +70,7 @@ fn finish<O: Write, E: Write>(
     console: &mut Console<'_, O, E>,
 ) -> Result<u8, Failure>
     ensures finished { IfOk result (HasFinished types.now served lacks console.old console.new) }
-    ensures cut { IfErr result (IsCutOff console.old console.new) }
+    ensures cut { IfErr result (λ failure. (failure ≡ Failure.Output) × IsQuiet console.old console.new) }
 {
     let end = print_service(served, console)?;
     end_service(end, types, lacks, console)

@@ -1,4 +1,5 @@
-//! Task slots of one kind. Each place is free, reserved for one poll, or held by one named task.
+//! Task slots of one kind. Each place is free, reserved for one poll, or held by one named task. And
+//! the sizes of a host, and the most that each may be.
 //!
 //! A worker has a fixed number of task slots, each with room for one task at a time (Temporal
 //! documentation, "Worker performance", task slots). A place is reserved before the source is
@@ -14,7 +15,9 @@ ghost use Rattle.wh_slots.specs.Table.{IsPlaceOf, IsReserved, IsHeld, Reserves, 
 ghost use Rattle.wh_slots.specs.Table.{Releases, IsReserveFault, IsUseFault, count_of};
 
 pub mod laws;
+mod sizes;
 
+pub use sizes::{Config, MOST_CACHED_EVENTS, MOST_RUNS, MOST_SEATS, MOST_SLOTS};
 use std::alloc::Global;
 use std::marker::Model;
 use wh_events::OutOfMemory;
@@ -85,9 +88,6 @@ pub struct SlotCount {
 
 /// The last number that a call gives out: 2^63 - 1.
 pub const LAST_NUMBER: u64 = 0x7fff_ffff_ffff_ffff;
-
-/// The most places of one kind.
-pub const MOST_SLOTS: usize = 1000;
 
 /// The right to use or to release one reserved place, once. It can't be copied. If it is dropped,
 /// its place stays reserved. Contracts see its kind and its number.

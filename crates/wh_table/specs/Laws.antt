@@ -8,13 +8,15 @@ use Rattle.wh_workflow.specs.declared.command.Command.{Command}
 use Rattle.wh_workflow.specs.declared.command.Command.TheVariants as commands
 use Rattle.wh_workflow.specs.Law.{Program, IsAnswer, asks_last, records_none}
 use Rattle.wh_rows.specs.Rows as rows
+use Rattle.wh_rows.specs.Rows.{is_start}
+use Rattle.wh_rows.specs.Courses.{goes_on}
 use Rattle.wh_rows.specs.Rules as rules
 use Rattle.wh_rows.specs.Lawful.{rows_lawful}
 use Rattle.wh_rows.specs.declared.row.RowsState.{RowsState}
 use Rattle.wh_row_rules.specs.declared.owned.OwnedTable.{OwnedTable}
 use Rattle.wh_row_rules.specs.Broken.{broken, definition}
 use Rattle.wh_table_text.specs.declared.fault.TableFault.{TableFault}
-use Rattle.wh_table_text.specs.Outcome.{faultless, ◌>>=◌}
+use Rattle.wh_or_memory.specs.Outcome.{faultless, ◌>>=◌}
 use Rattle.wh_table_text.specs.Reading.{table_of, shape_of, of_rows, rules_fault, or_not_json}
 use Rattle.wh_table_text.specs.Texts.{fault_text}
 use Rattle.wh_json.specs.Events.{document_within}
@@ -23,38 +25,29 @@ use Rattle.wh_table.specs.declared.state.TableState.{TableState}
 use Rattle.wh_table.specs.Carrying.{is_answer, with_table, held}
 use Rattle.wh_table.specs.Program.{front, tail, table_in, no_table, begun, failed, followed, given, after, gives, program}
 
--- the start of a run
-abbrev pub is_start : Job → Bool
-is_start (jobs.Start _ _) = true
-is_start _ = false
-
--- none of the jobs starts a run
-abbrev pub none_starts : List Job → Bool
-none_starts [] = true
-none_starts (job ∷ later) = not (is_start job) && none_starts later
-
 -- the commands that a run gives to each of these jobs, one job after another
 abbrev pub given_to_each : {S : Type 0} → Program S → S → List Job → List (List Command)
 given_to_each code state [] = []
 given_to_each code state (job ∷ later) = code.gives state job ∷ given_to_each code (code.after state job) later
 
--- If its first payload reads as a table, a run gives at its start and at every later job the commands that the rows of
--- that table, as a table of the program, give to a run with the other payloads as its input. If they continue as a new
--- run of the table, that gets the table too.
+-- If its first payload reads as a table, a run gives at its start and at every later job, none of which starts it, the
+-- commands that the rows of that table, as a table of the program, give to a run with the other payloads as its input.
+-- If they continue as a new run of the table, that gets the table too.
 abbrev pub FollowsItsTable : Type 0
 FollowsItsTable =
     (state : TableState) (kind : List ℕ) (input : List Payload) (later : List Job) (table : OwnedTable)
-    → table_in input ≡ Ok table → none_starts later ≡ true
+    → table_in input ≡ Ok table → goes_on later ≡ true
     → given_to_each program state (jobs.Start kind input ∷ later)
     ≡ map (map (with_table kind (front input)))
     (given_to_each (rows.program (definition table))
     (rows.initial (definition table)) (jobs.Start kind (tail input) ∷ later))
 
--- if its first payload is not a table, a run fails at its start, with the reason, and gives no further commands
+-- if its first payload is not a table, a run fails at its start, with the reason, and gives no commands to later jobs,
+-- none of which starts it
 abbrev pub FailsWithoutTable : Type 0
 FailsWithoutTable =
     (state : TableState) (kind : List ℕ) (input : List Payload) (later : List Job) (fault : TableFault)
-    → table_in input ≡ Err fault → none_starts later ≡ true
+    → table_in input ≡ Err fault → goes_on later ≡ true
     → given_to_each program state (jobs.Start kind input ∷ later)
     ≡ (commands.Fail (fault_text fault) ∷ []) ∷ map (λ job. []) later
 
@@ -153,13 +146,13 @@ cons : {A : Type 0} (x y : A) (xs ys : List A) → x ≡ y → xs ≡ ys → x �
 cons x y xs ys first rest = ap (λ z. z ∷ xs) first ∙ ap (λ zs. y ∷ zs) rest
 
 goes_along : (kind : List ℕ) (payload : List Payload) (table : OwnedTable) (run : RowsState) (later : List Job)
-    → rules.table_fault (definition table) ≡ None → none_starts later ≡ true
+    → rules.table_fault (definition table) ≡ None → goes_on later ≡ true
     → given_to_each program (running kind payload table run) later
     ≡ map (map (with_table kind payload)) (given_to_each (rows.program (definition table)) run later)
 goes_along kind payload table run [] none starts = refl
 goes_along kind payload table run (job ∷ later) none starts =
     let other : is_start job ≡ false =
-    is_false (is_start job) (first_holds (not (is_start job)) (none_starts later) starts) in
+    is_false (is_start job) (first_holds (not (is_start job)) (goes_on later) starts) in
     cons (gives (running kind payload table run) job)
     (map (with_table kind payload) (rows.gives (definition table) run job))
     (given_to_each program (after (running kind payload table run) job) later)
@@ -168,7 +161,7 @@ goes_along kind payload table run (job ∷ later) none starts =
     (later_gives (running kind payload table run) job other ∙ not_held kind payload table run job none)
     (ap (λ state. given_to_each program state later) (later_goes (running kind payload table run) job other)
     ∙ goes_along kind payload table (rows.after (definition table) run job) later none
-    (second_holds (not (is_start job)) (none_starts later) starts))
+    (second_holds (not (is_start job)) (goes_on later) starts))
 
 pub follows_its_table : FollowsItsTable
 follows_its_table state kind input later table is starts =
@@ -191,19 +184,19 @@ nothing_held : (kind : List ℕ) (payload : List Payload) (run : RowsState) (job
 unfolding rows.row_for
 nothing_held kind payload run job = refl
 
-stays_closed : (kind : List ℕ) (payload : List Payload) (run : RowsState) (later : List Job) → none_starts later ≡ true
+stays_closed : (kind : List ℕ) (payload : List Payload) (run : RowsState) (later : List Job) → goes_on later ≡ true
     → given_to_each program (running kind payload no_table run) later ≡ map (λ job. []) later
 stays_closed kind payload run [] starts = refl
 stays_closed kind payload run (job ∷ later) starts =
     let other : is_start job ≡ false =
-    is_false (is_start job) (first_holds (not (is_start job)) (none_starts later) starts) in
+    is_false (is_start job) (first_holds (not (is_start job)) (goes_on later) starts) in
     cons (gives (running kind payload no_table run) job) []
     (given_to_each program (after (running kind payload no_table run) job) later)
     (map (λ job. []) later)
     (later_gives (running kind payload no_table run) job other ∙ nothing_held kind payload run job)
     (ap (λ state. given_to_each program state later) (later_goes (running kind payload no_table run) job other)
     ∙ stays_closed kind payload (rows.after (definition no_table) run job) later
-    (second_holds (not (is_start job)) (none_starts later) starts))
+    (second_holds (not (is_start job)) (goes_on later) starts))
 
 pub fails_without_table : FailsWithoutTable
 fails_without_table state kind input later fault is starts =

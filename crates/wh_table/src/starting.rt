@@ -3,15 +3,16 @@ ghost use Rattle.std.specs.Prelude.{◌≡◌, [], IfOk, Err, Ok};
 ghost use Rattle.wh_workflow.specs.declared.job.Job.TheVariants as jobs;
 ghost use Rattle.wh_rows.specs.Rows.{initial};
 ghost use Rattle.wh_row_rules.specs.Broken.{definition};
-ghost use Rattle.wh_table_text.specs.Outcome.{Gives};
+ghost use Rattle.wh_or_memory.specs.Outcome.{Gives};
 ghost use Rattle.wh_table.specs.Program.{front, tail, table_in, no_table, begun, failed, opened, opening};
 
 use crate::following::follow;
 use crate::state::TableState;
 use std::alloc::Global;
 use wh_events::{Items, OutOfMemory, Payload, Text};
+use wh_or_memory::OrMemory;
 use wh_row_rules::OwnedTable;
-use wh_rows::{Counters, Naming, RowsState, StateName};
+use wh_rows::{Naming, RowsState, StateName, UNCOUNTED};
 use wh_table_text::{TableFault, fault_text, read_table};
 use wh_workflow::{Command, Job, no_payloads, text_of};
 
@@ -42,24 +43,12 @@ fn front(alloc: Global, payloads: &[Payload]) -> Result<Items<Payload>, OutOfMem
 }
 
 /// Returns the table in the first payload, or the fault if it is not a table.
-fn table_in(alloc: Global, payloads: &[Payload]) -> Result<OwnedTable, TableFault>
+fn table_in(alloc: Global, payloads: &[Payload]) -> Result<OwnedTable, OrMemory<TableFault>>
     ensures { Gives (λ table. table) result (table_in payloads.now) }
 {
     match payloads {
         [first, ..] => read_table(alloc, first.content.get()),
-        [] => Err(TableFault::NoTable),
-    }
-}
-
-/// Returns counters that are all 0.
-fn no_counts() -> Counters
-    ensures { result ≡ record { a = 0; b = 0; c = 0; d = 0 } }
-{
-    Counters {
-        a: 0,
-        b: 0,
-        c: 0,
-        d: 0,
+        [] => Err(OrMemory::Fault(TableFault::NoTable)),
     }
 }
 
@@ -70,7 +59,7 @@ fn no_table(alloc: Global) -> Result<OwnedTable, OutOfMemory>
     Ok(OwnedTable {
         first: text_of(alloc, "")?,
         name: Naming::Nameless,
-        bounds: no_counts(),
+        bounds: UNCOUNTED,
         rows: Items::new(Vec::new(alloc)),
     })
 }
@@ -85,7 +74,7 @@ fn first_run(alloc: Global, table: &OwnedTable, closed: bool) -> Result<RowsStat
         name: text_of(alloc, "")?,
         input: no_payloads(alloc),
         kept: no_payloads(alloc),
-        counts: no_counts(),
+        counts: UNCOUNTED,
     })
 }
 
@@ -195,8 +184,8 @@ fn start_with(
     let payload = front(alloc, input.get())?;
     match table_in(alloc, input.get()) {
         Ok(table) => follow_table(alloc, kind, payload, table, job),
-        Err(TableFault::OutOfMemory) => Err(OutOfMemory),
-        Err(fault) => refuse(alloc, kind, payload, fault, job),
+        Err(OrMemory::OutOfMemory) => Err(OutOfMemory),
+        Err(OrMemory::Fault(fault)) => refuse(alloc, kind, payload, fault, job),
     }
 }
 

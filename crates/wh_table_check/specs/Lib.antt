@@ -2,3 +2,4 @@ pub mod Findings
 pub mod Warnings
 pub mod Checks
 pub mod Texts
+pub mod PromiseTexts

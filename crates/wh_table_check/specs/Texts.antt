@@ -8,6 +8,7 @@ use Rattle.wh_tester.specs.Report.{shown}
 use Rattle.wh_table_check.specs.declared.checking.TableCheck.{TableCheck}
 use Rattle.wh_table_check.specs.declared.finding.TableFinding.{TableFinding}
 use Rattle.wh_table_check.specs.Checks.{is_good}
+use Rattle.wh_table_check.specs.PromiseTexts.{findings_text, promises_member}
 
 -- ---- As text
 
@@ -35,7 +36,7 @@ verdict_lines own = if nat_eq (length own.faults) 0 then rows_line own else find
 -- the lines of a file
 abbrev pub checked_text : TableCheck → List ℕ
 checked_text own =
-    (verdict_lines own ++ finding_lines own.name (codes "warning, ") own.warnings) ++ own.more.text
+    (verdict_lines own ++ finding_lines own.name (codes "warning, ") own.warnings) ++ findings_text own.promises
 
 -- ---- As JSON
 
@@ -72,7 +73,7 @@ list_member key list = codes ",\"" ++ (key ++ (codes "\":[" ++ (finding_list lis
 abbrev pub checked_object : TableCheck → List ℕ
 checked_object own =
     (((object_head own ++ list_member (codes "faults") own.faults) ++ list_member (codes "warnings") own.warnings)
-    ++ own.more.members) ++ codes "}\n"
+    ++ promises_member own.promises) ++ codes "}\n"
 
 -- ---- The report
 

@@ -38,13 +38,13 @@ fn fault_finding(alloc: Global, fault: TableFault) -> Result<TableFinding, OutOf
 /// Returns the faults of a table, as findings.
 pub(crate) fn fault_findings(
     alloc: Global,
-    faults: Vec<TableFault>,
+    faults: &[TableFault],
 ) -> Result<Vec<TableFinding>, OutOfMemory>
-    ensures { IfOk result (λ findings. findings.items ≡ map fault_finding faults.items) }
+    ensures { IfOk result (λ findings. findings.items ≡ map fault_finding faults.now) }
 {
     let mut findings = Vec::new(alloc);
     for fault in faults {
-        let finding = fault_finding(alloc, fault)?;
+        let finding = fault_finding(alloc, *fault)?;
         findings.push(finding)?;
     }
     Ok(findings)

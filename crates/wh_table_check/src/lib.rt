@@ -1,15 +1,16 @@
-//! Finds all faults and warnings of tables in files, and writes them as text or as JSON. A caller
-//! can add further findings.
+//! The warnings for tables, and the report of their check: faults, warnings and what is found of
+//! promises, as text or as JSON.
 #![tactic(auto)]
 
 mod checking;
-mod commands;
 mod finding;
+mod promise_texts;
+mod report;
 mod texts;
 mod warning;
 
-pub use checking::{More, MoreFindings, NoMore, RowPath, TableCheck, check_table};
-pub use commands::{TableFile, check_command, status_of, write_checked};
+pub use checking::{TableCheck, table_check};
 pub use finding::TableFinding;
+pub use promise_texts::{findings_json, findings_text, list_words, outcome_detail};
+pub use report::{status_of, write_checked};
 pub use texts::{is_good, verdict_word};
-pub use warning::warnings;

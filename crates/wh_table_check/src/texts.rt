@@ -8,15 +8,17 @@ ghost use Rattle.wh_table_check.specs.Texts.{object_head, list_member, checked_o
 
 use crate::checking::TableCheck;
 use crate::finding::TableFinding;
+use crate::promise_texts::{findings_text, promises_member};
 use std::alloc::{AllocError, Global};
 use wh_console::Format;
+use wh_row_rules::are_kept;
 use wh_tester::{EscapedName, Shown};
 
-/// Returns whether a table has no fault, and its further findings leave it good.
+/// Returns whether a table has no fault, and each of its promises is kept.
 pub fn is_good(own: &TableCheck) -> bool
     ensures { result ≡ is_good own.now }
 {
-    own.faults.get().is_empty() && own.more.good
+    own.faults.get().is_empty() && are_kept(&own.promises)
 }
 
 /// Returns the word for a table: `ok` if it is good, and else `fault`.
@@ -85,7 +87,8 @@ fn checked_text(alloc: Global, own: &TableCheck) -> Result<String, AllocError>
     let mut text = verdict_lines(alloc, own)?;
     let warnings = finding_lines(alloc, own.name.get(), "warning, ", own.warnings.get())?;
     text.push_str(warnings.as_str())?;
-    text.push_str(own.more.text.get())?;
+    let promises = findings_text(alloc, &own.promises)?;
+    text.push_str(promises.as_str())?;
     Ok(text)
 }
 
@@ -161,7 +164,8 @@ fn checked_object(alloc: Global, own: &TableCheck) -> Result<String, AllocError>
     text.push_str(faults.as_str())?;
     let warnings = list_member(alloc, "warnings", own.warnings.get())?;
     text.push_str(warnings.as_str())?;
-    text.push_str(own.more.members.get())?;
+    let promises = promises_member(alloc, &own.promises)?;
+    text.push_str(promises.as_str())?;
     text.push_str("}\n")?;
     Ok(text)
 }

@@ -197,7 +197,7 @@ fn add_row(
 /// Returns the warnings for a table without a fault, row by row: for each state that no row leads
 /// out of, at the first row for it, and for each activity, timer and child that a row starts and no
 /// row of the table waits for. `OutOfMemory` if there is no memory for the list.
-pub fn warnings(alloc: Global, rows: &[OwnedRow]) -> Result<Vec<TableFinding>, OutOfMemory>
+pub(crate) fn warnings(alloc: Global, rows: &[OwnedRow]) -> Result<Vec<TableFinding>, OutOfMemory>
     ensures { IfOk result (λ found. found.items ≡ warnings rows.now) }
 {
     let mut found = Vec::new(alloc);

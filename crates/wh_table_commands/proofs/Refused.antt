@@ -15,7 +15,7 @@ use Rattle.wh_diagnostics.specs.Readings.{Gives}
 use Rattle.wh_diagnostics.specs.declared.failures.Failure.{Failure}
 use Rattle.wh_diagnostics.specs.declared.failures.Failure.TheVariants.{NotText}
 use Rattle.wh_file_faults.specs.Faults.{File}
-use Rattle.wh_table_check.specs.declared.commands.TableFile.{TableFile}
+use Rattle.wh_table_commands.specs.declared.files.TableFile.{TableFile}
 use Rattle.wh_table_commands.specs.Checks.{HasNotChecked, HasNotCheckedPaths}
 use Rattle.wh_table_commands.specs.Files.{IsTableOf}
 use Rattle.wh_table_commands.specs.Refusals.{IsNoText, IsUntried, LacksScenario}

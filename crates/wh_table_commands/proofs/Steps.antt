@@ -14,15 +14,14 @@ use Rattle.wh_diagnostics.specs.declared.failures.Failure.{Failure}
 use Rattle.wh_file_faults.specs.Faults.{File}
 use Rattle.wh_file_faults.specs.declared.command_fault.CommandFault.{CommandFault}
 use Rattle.wh_html.specs.Html.{bytes}
-use Rattle.wh_table_check.specs.Checks.{AreChecked, IsChecked, status_of}
+use Rattle.wh_table_check.specs.Checks.{status_of}
 use Rattle.wh_table_check.specs.Texts.{report_as}
 use Rattle.wh_table_check.specs.declared.checking.TableCheck.{TableCheck}
-use Rattle.wh_table_check.specs.declared.commands.TableFile.{TableFile}
-use Rattle.wh_table_commands.specs.Checks.{Finds, HasChecked}
+use Rattle.wh_table_commands.specs.declared.files.TableFile.{TableFile}
+use Rattle.wh_table_commands.specs.Checks.{IsChecked, HasChecked}
 use Rattle.wh_table_commands.specs.Files.{IsTableOf, table_of}
-use Rattle.wh_table_commands.specs.Pictures.{HasDrawn}
+use Rattle.wh_table_commands.specs.Pictures.{IsDrawingOf, HasDrawn}
 use Rattle.wh_table_commands.specs.Trials.{HasTried, IsScenario}
-use Rattle.wh_table_picture.specs.Drawings.{drawing_of}
 use Rattle.wh_table_picture.specs.Pages.{page_html}
 use Rattle.wh_table_picture.specs.declared.drawing.Drawing.{Drawing}
 use Rattle.wh_table_trial.specs.Commands.{status_of as trial_status}
@@ -39,53 +38,42 @@ zip_more R (a ∷ xs) [] x y h r = absurd h
 zip_more R (a ∷ xs) (b ∷ ys) x y h r = (h.0, zip_more R xs ys x y h.1 r)
 
 -- the report of a check was printed
-abbrev pub IsReport : Finds → List TableFile → Format → (lacks : Bool) → (old new : ConsoleView) → ℕ → Type 0
-IsReport finds files format lacks old new status =
-    (all : List TableCheck) × AreChecked finds files all
+abbrev pub IsReport : List TableFile → Format → (lacks : Bool) → (old new : ConsoleView) → ℕ → Type 0
+IsReport files format lacks old new status =
+    (all : List TableCheck) × AllZip IsChecked files all
     × HasPrinted (report_as format all) (status_with lacks (status_of all)) old new status
 
-pub files_checked : (finds : Finds) (files : List TableFile) (format : Format) (lacks : Bool) (old new : ConsoleView) (all : List TableCheck) (result : Result ℕ Failure)
-    → AreChecked finds files all → IfOk result (HasPrinted (report_as format all) (status_with lacks (status_of all)) old new)
-    → IfOk result (IsReport finds files format lacks old new)
-files_checked finds files format lacks old new all (Ok status) checked printed = (all, checked, printed)
-files_checked finds files format lacks old new all (Err failure) checked printed = tt
+pub files_checked : (files : List TableFile) (format : Format) (lacks : Bool) (old new : ConsoleView) (all : List TableCheck) (result : Result ℕ Failure)
+    → AllZip IsChecked files all → IfOk result (HasPrinted (report_as format all) (status_with lacks (status_of all)) old new)
+    → IfOk result (IsReport files format lacks old new)
+files_checked files format lacks old new all (Ok status) checked printed = (all, checked, printed)
+files_checked files format lacks old new all (Err failure) checked printed = tt
 
-report_read : (gives : Gives) (finds : Finds) (format : Format) (inputs : List Input) (left_out : Bool) (files : List TableFile) (old new : ConsoleView) (status : ℕ)
-    → AllZip (IsTableOf gives) inputs files → IsReport finds files format (lacks_files left_out false inputs) old new status
-    → HasChecked gives finds format inputs left_out old new status
-report_read gives finds format inputs left_out files old new status read own =
+report_read : (gives : Gives) (format : Format) (inputs : List Input) (left_out : Bool) (files : List TableFile) (old new : ConsoleView) (status : ℕ)
+    → AllZip (IsTableOf gives) inputs files → IsReport files format (lacks_files left_out false inputs) old new status
+    → HasChecked gives format inputs left_out old new status
+report_read gives format inputs left_out files old new status read own =
     record { files = files; read = read; all = own.0; checked = own.1; printed = own.2 }
 
 -- files that inputs were read as were checked
-pub inputs_checked : (gives : Gives) (finds : Finds) (format : Format) (inputs : List Input) (left_out lacks : Bool) (files seen : List TableFile) (old new : ConsoleView) (result : Result ℕ Failure)
+pub inputs_checked : (gives : Gives) (format : Format) (inputs : List Input) (left_out lacks : Bool) (files seen : List TableFile) (old new : ConsoleView) (result : Result ℕ Failure)
     → AllZip (IsTableOf gives) inputs files → seen ≡ files → lacks ≡ lacks_files left_out false inputs
-    → IfOk result (IsReport finds seen format lacks old new)
-    → IfOk result (HasChecked gives finds format inputs left_out old new)
-inputs_checked gives finds format inputs left_out lacks files seen old new (Ok status) read same is own =
-    report_read gives finds format inputs left_out files old new status read
-    (subst (λ l. IsReport finds l format (lacks_files left_out false inputs) old new status) same
-    (subst (λ l. IsReport finds seen format l old new status) is own))
-inputs_checked gives finds format inputs left_out lacks files seen old new (Err failure) read same is own = tt
-
-drawn_as : (finds : Finds) (file : File) (table : TableFile) (drawing : Drawing) (old new : ConsoleView) (status : ℕ)
-    → table ≡ table_of file → drawing ≡ drawing_of table drawing.checked → IsChecked finds table drawing.checked
-    → HasPrinted (bytes (page_html drawing)) (status_of (drawing.checked ∷ [])) old new status
-    → HasDrawn finds file old new status
-drawn_as finds file table drawing old new status same is checked printed = record {
-  own = drawing.checked;
-  checked = subst (λ t. IsChecked finds t drawing.checked) same checked;
-  printed = subst (λ d. HasPrinted (bytes (page_html d)) (status_of (drawing.checked ∷ [])) old new status)
-      (is ∙ ap (λ t. drawing_of t drawing.checked) same) printed;
-}
+    → IfOk result (IsReport seen format lacks old new)
+    → IfOk result (HasChecked gives format inputs left_out old new)
+inputs_checked gives format inputs left_out lacks files seen old new (Ok status) read same is own =
+    report_read gives format inputs left_out files old new status read
+    (subst (λ l. IsReport l format (lacks_files left_out false inputs) old new status) same
+    (subst (λ l. IsReport seen format l old new status) is own))
+inputs_checked gives format inputs left_out lacks files seen old new (Err failure) read same is own = tt
 
 -- the page of a table was printed
-pub table_drawn : (finds : Finds) (file : File) (table : TableFile) (drawing : Drawing) (old new : ConsoleView) (result : Result ℕ Failure)
-    → table ≡ table_of file → drawing ≡ drawing_of table drawing.checked → IsChecked finds table drawing.checked
+pub table_drawn : (file : File) (table : TableFile) (drawing : Drawing) (old new : ConsoleView) (result : Result ℕ Failure)
+    → table ≡ table_of file → IsDrawingOf table drawing
     → IfOk result (HasPrinted (bytes (page_html drawing)) (status_of (drawing.checked ∷ [])) old new)
-    → IfOk result (HasDrawn finds file old new)
-table_drawn finds file table drawing old new (Ok status) same is checked printed =
-    drawn_as finds file table drawing old new status same is checked printed
-table_drawn finds file table drawing old new (Err failure) same is checked printed = tt
+    → IfOk result (HasDrawn file old new)
+table_drawn file table drawing old new (Ok status) same drawn printed =
+    record { drawing = drawing; drawn = subst (λ t. IsDrawingOf t drawing) same drawn; printed = printed }
+table_drawn file table drawing old new (Err failure) same drawn printed = tt
 
 -- the result of a trial was printed
 pub table_tried : (gives : Gives) (path : List ℕ) (given : Option (List ℕ)) (file : File) (scenario seen : List ℕ) (old new : ConsoleView) (result : Result ℕ Failure)

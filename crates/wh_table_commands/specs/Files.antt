@@ -3,7 +3,7 @@ use Rattle.std.specs.Prelude.{◌≡◌, string_bytes}
 use Rattle.wh_console.specs.declared.files.Input.{Input}
 use Rattle.wh_diagnostics.specs.Readings.{Gives, IsReadAs}
 use Rattle.wh_file_faults.specs.Faults.{File}
-use Rattle.wh_table_check.specs.declared.commands.TableFile.{TableFile}
+use Rattle.wh_table_commands.specs.declared.files.TableFile.{TableFile}
 
 -- a file as that of a table
 abbrev pub table_of : File → TableFile

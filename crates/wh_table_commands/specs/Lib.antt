@@ -3,4 +3,3 @@ pub mod Files
 pub mod Pictures
 pub mod Refusals
 pub mod Trials
-pub mod Finds

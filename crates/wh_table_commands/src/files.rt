@@ -8,7 +8,15 @@ ghost use Rattle.wh_table_commands.specs.Files.{IsTableOf, table_of};
 use wh_console::Input;
 use wh_diagnostics::{Failure, InputReader, file_from};
 use wh_events::{Items, Text};
-use wh_table_check::TableFile;
+
+/// A file that has been read.
+#[derive(Drop)]
+pub struct TableFile {
+    /// Its name.
+    pub name: Text,
+    /// Its bytes.
+    pub bytes: Items<u8>,
+}
 
 /// A file as that of a table.
 pub(crate) fn table_of(file: (String, Vec<u8>)) -> TableFile

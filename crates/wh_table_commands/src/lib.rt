@@ -3,12 +3,12 @@
 #![tactic(auto)]
 
 mod check;
+mod checking;
 mod files;
 mod picture;
-mod promises;
 mod trial;
 
 pub use check::check_paths;
+pub use files::TableFile;
 pub use picture::picture_path;
-pub use promises::Promises;
 pub use trial::try_path;

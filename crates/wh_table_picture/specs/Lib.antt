@@ -3,5 +3,7 @@ pub mod Layout
 pub mod Drawings
 pub mod Marking
 pub mod Pictures
+pub mod Promises
 pub mod Pages
 pub mod Without
+pub mod Paths

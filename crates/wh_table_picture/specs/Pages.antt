@@ -2,7 +2,7 @@
 use Rattle.std.specs.Prelude.{ℕ, if◌then◌else◌, List, length, nat_eq, codes}
 use Rattle.wh_html.specs.Html.{Html, nothing, markup, plain, hole, ◌⊕◌, number, each}
 use Rattle.wh_table_check.specs.declared.checking.TableCheck.{TableCheck}
-use Rattle.wh_table_check.specs.declared.checking.RowPath.{RowPath}
+use Rattle.wh_table_picture.specs.declared.paths.RowPath.{RowPath}
 use Rattle.wh_table_check.specs.declared.finding.TableFinding.{TableFinding}
 use Rattle.wh_table_check.specs.Checks.{is_good}
 use Rattle.wh_table_check.specs.Texts.{verdict_word}
@@ -10,6 +10,7 @@ use Rattle.wh_table_picture.specs.declared.drawing.Drawing.{Drawing}
 use Rattle.wh_table_picture.specs.declared.layout.PictureRow.{PictureRow}
 use Rattle.wh_table_picture.specs.declared.style.TheConstants.{STYLE_OF_PAGE, STYLE_OF_ROWS, STYLE_OF_PRINT}
 use Rattle.wh_table_picture.specs.Pictures.{legend_html, picture_html}
+use Rattle.wh_table_picture.specs.Promises.{promises_html}
 
 -- how a verdict stands: that of a good table, or of another one
 abbrev pub verdict_class : TableCheck → List ℕ
@@ -53,12 +54,6 @@ items_html heading list =
     else markup (codes "<section>\n<h2>") ⊕ plain heading ⊕ markup (codes "</h2>\n<ul>\n") ⊕ each item_html list
     ⊕ markup (codes "</ul>\n</section>\n")
 
--- what else is found, if it is something
-abbrev pub more_html : List ℕ → Html
-more_html lines =
-    if nat_eq (length lines) 0 then nothing
-    else markup (codes "<section>\n<h2>Further</h2>\n<pre>") ⊕ hole 100000 lines ⊕ markup (codes "</pre>\n</section>\n")
-
 -- a cell of the table
 abbrev pub cell_html : List ℕ → Html
 cell_html words = markup (codes "<td>") ⊕ hole 2000 words ⊕ markup (codes "</td>")
@@ -92,6 +87,6 @@ page_html drawing =
     front_html drawing
     ⊕ items_html (codes "Faults") drawing.checked.faults
     ⊕ items_html (codes "Warnings") drawing.checked.warnings
-    ⊕ more_html drawing.checked.more.text
-    ⊕ states_html drawing.checked.more.paths drawing.lines
+    ⊕ promises_html drawing.checked.promises
+    ⊕ states_html drawing.paths drawing.lines
     ⊕ markup (codes "</main>\n</body>\n</html>\n")

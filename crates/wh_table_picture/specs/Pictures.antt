@@ -1,8 +1,9 @@
 -- The picture: the rows of a table by their states, and where each leads to.
-use Rattle.std.specs.Prelude.{ℕ, ◌+◌, ◌*◌, ◌%◌, min, Bool, false, ◌||◌, if◌then◌else◌, Option, Some, None, List, [], ◌∷◌, length, nat_eq, codes}
+use Rattle.std.specs.Prelude.{ℕ, ◌+◌, ◌*◌, ◌%◌, min, nat_lt, Bool, false, ◌||◌, if◌then◌else◌, Option, Some, None, List, [], ◌∷◌, length, nat_eq, codes}
 use Rattle.wh_html.specs.Html.{Html, nothing, markup, plain, hole, ◌⊕◌, number, each}
-use Rattle.wh_table_check.specs.declared.checking.RowPath.{RowPath}
+use Rattle.wh_table_picture.specs.declared.paths.RowPath.{RowPath}
 use Rattle.wh_table_picture.specs.declared.layout.PictureRow.{PictureRow}
+use Rattle.wh_table_picture.specs.declared.layout.RowWay.{RowWay}
 use Rattle.wh_table_picture.specs.declared.layout.StateMark.{StateMark}
 use Rattle.wh_table_picture.specs.declared.layout.StateMark.TheVariants.{Unmarked, Passed, Last}
 use Rattle.wh_table_picture.specs.Layout.{has_row}
@@ -12,9 +13,13 @@ use Rattle.wh_table_picture.specs.declared.style.TheConstants.{STYLE_OF_ROWS, ST
 abbrev pub top_of : (place : ℕ) → ℕ
 top_of place = 10 + 46 * min place 400
 
--- how far to the right the lines to a place go
-abbrev pub lane_of : (place : ℕ) → ℕ
-lane_of place = 710 + 11 * min place 24
+-- how many lanes there are
+abbrev pub lanes : ℕ
+lanes = 25
+
+-- how far to the right the lines of a lane go
+abbrev pub lane_of : (lane : ℕ) → ℕ
+lane_of lane = 710 + 11 * min lane lanes
 
 -- how the name of a state stands that is marked so
 abbrev pub mark_class : StateMark → List ℕ
@@ -64,31 +69,50 @@ edge_html place begins =
     ⊕ number (top_of place) ⊕ markup (codes "\"/>")
     else nothing
 
--- the tip of a line to a place
-abbrev pub tip_html : (target : ℕ) → Html
-tip_html target =
-    markup (codes "<path class=\"tip to") ⊕ number (target % 5) ⊕ markup (codes "\" d=\"M690 ") ⊕ number (top_of target + 14)
-    ⊕ markup (codes "l9 -5v10z\"/>")
+-- the tip of a line
+abbrev pub tip_html : RowWay → Html
+tip_html way =
+    markup (codes "<path class=\"tip to") ⊕ number (way.lane % 5) ⊕ markup (codes "\" d=\"M690 ")
+    ⊕ number (top_of way.place + 14) ⊕ markup (codes "l9 -5v10z\"/>")
 
--- where a row leads to: from its place to that place
-abbrev pub way_to_html : (place target : ℕ) → Html
-way_to_html place target =
-    markup (codes "<path class=\"way to") ⊕ number (target % 5) ⊕ markup (codes "\" d=\"M690 ") ⊕ number (top_of place + 34)
-    ⊕ markup (codes "H") ⊕ number (lane_of target) ⊕ markup (codes "V") ⊕ number (top_of target + 14)
-    ⊕ markup (codes "H698\"/>") ⊕ tip_html target
+-- a line from the place of a row, by the lane of its way, to the place where that leads
+abbrev pub arrow_html : (place : ℕ) → RowWay → Html
+arrow_html place way =
+    markup (codes "<path class=\"way to") ⊕ number (way.lane % 5) ⊕ markup (codes "\" d=\"M690 ")
+    ⊕ number (top_of place + 34) ⊕ markup (codes "H") ⊕ number (lane_of way.lane) ⊕ markup (codes "V")
+    ⊕ number (top_of way.place + 14) ⊕ markup (codes "H698\"/>") ⊕ tip_html way
 
--- the same, unless it stays in its state
-abbrev pub way_html : (place : ℕ) → Option ℕ → Html
-way_html place None = nothing
-way_html place (Some target) = way_to_html place target
+-- the name of the state that a way leads to, or that it closes the run
+abbrev pub target_html : (closes : Bool) → (name : List ℕ) → Html
+target_html closes name = if closes then markup (codes "closed") else hole 30 name
+
+-- a line from the place of a row that ends with the name of the state to which its way leads
+abbrev pub stub_html : (place : ℕ) → RowWay → (name : List ℕ) → Html
+stub_html place way name =
+    markup (codes "<path class=\"way to") ⊕ number (way.lane % 5) ⊕ markup (codes "\" d=\"M690 ")
+    ⊕ number (top_of place + 34) ⊕ markup (codes "h14\"/><text class=\"stub\" x=\"708\" y=\"") ⊕ number (top_of place + 38)
+    ⊕ markup (codes "\">&#8594; ") ⊕ target_html way.closes name ⊕ markup (codes "</text>")
+
+-- where a row leads to: a line there, or a stub with the name if there is no lane for it
+abbrev pub way_to_html : (place : ℕ) → RowWay → (name : List ℕ) → Html
+way_to_html place way name = if nat_lt way.lane lanes then arrow_html place way else stub_html place way name
+
+-- the same, if there is a way
+abbrev pub way_if_html : (place : ℕ) → Option RowWay → (name : List ℕ) → Html
+way_if_html place None name = nothing
+way_if_html place (Some way) name = way_to_html place way name
+
+-- where a row leads to, unless it stays in its state
+abbrev pub way_html : PictureRow → Html
+way_html line = way_if_html line.place line.way line.next
 
 -- the box of a row, with the name of its state
 abbrev pub state_html : PictureRow → Html
 state_html line =
     markup (codes "<rect class=\"box\" x=\"10\" y=\"") ⊕ number (top_of line.place)
     ⊕ markup (codes "\" width=\"680\" height=\"46\"/><text class=\"") ⊕ plain (name_class line.begins line.mark)
-    ⊕ markup (codes "\" x=\"24\" y=\"") ⊕ number (top_of line.place + 20) ⊕ markup (codes "\">") ⊕ hole 20 line.state
-    ⊕ markup (codes "</text>")
+    ⊕ markup (codes "\" x=\"24\" y=\"") ⊕ number (top_of line.place + 20) ⊕ markup (codes "\"><title>")
+    ⊕ hole 300 line.state ⊕ markup (codes "</title>") ⊕ hole 17 line.state ⊕ markup (codes "</text>")
 
 -- the job of a row, with its conditions
 abbrev pub job_html : PictureRow → Html
@@ -107,7 +131,7 @@ abbrev pub row_html : List RowPath → PictureRow → Html
 row_html paths line =
     markup (codes "<g class=\"") ⊕ plain (row_class (line.taken || is_taken paths line.number)) ⊕ markup (codes "\">")
     ⊕ state_html line ⊕ job_html line ⊕ commands_html line ⊕ edge_html line.place line.begins
-    ⊕ way_html line.place line.way ⊕ markup (codes "</g>\n")
+    ⊕ way_html line ⊕ markup (codes "</g>\n")
 
 -- the number of a row that a path takes
 abbrev pub taken_html : ℕ → Html

@@ -1,19 +1,18 @@
 //! What the page of a table shows.
-ghost use Rattle.std.specs.Prelude.{◌≡◌, IfOk, map};
+ghost use Rattle.std.specs.Prelude.{◌≡◌, IfOk, map, option_map};
 ghost use Rattle.serde_json.specs.View.{view};
-ghost use Rattle.wh_json.specs.Events.{document_within};
-ghost use Rattle.wh_table_picture.specs.Drawings.{row_values, lines_by, title_by, table_lines, drawing_of};
-ghost use Rattle.wh_table_check.specs.Checks.{IsChecked};
+ghost use Rattle.wh_table_picture.specs.Drawings.{row_values, lines_by, title_by, table_rows, reading_lines, drawing_of};
 
 use crate::cells::title_of;
 use crate::layout::{PictureRow, lines_of};
+use crate::paths::{RowPath, paths_of};
 use serde_json::Value;
 use std::alloc::Global;
 use wh_events::{Items, OutOfMemory, Text};
-use wh_json::{ReadFault, field, list_in, read_document};
-use wh_row_rules::OwnedRow;
-use wh_table_check::{MoreFindings, TableCheck, TableFile, check_table};
-use wh_table_text::{TableFault, read_table};
+use wh_json::{field, list_in};
+use wh_row_rules::{OwnedRow, OwnedTable};
+use wh_table_check::TableCheck;
+use wh_table_text::TableReading;
 use wh_workflow::text_of;
 
 /// What the page of a table shows.
@@ -25,13 +24,8 @@ pub struct Drawing {
     pub title: Text,
     /// Its rows. There are none if it breaks a rule.
     pub lines: Items<PictureRow>,
-}
-
-/// The title and the rows of a table.
-#[derive(Drop)]
-pub(crate) struct Words {
-    pub(crate) title: Text,
-    pub(crate) lines: Vec<PictureRow>,
+    /// The rows that a run takes on the way to each broken promise.
+    pub paths: Items<RowPath>,
 }
 
 /// The list of rows of a value.
@@ -47,48 +41,66 @@ fn row_values(value: &Value) -> &[Value]
     }
 }
 
-/// The title and the rows of a table, of which a JSON text has the words.
-fn words_of(alloc: Global, rows: &[OwnedRow], bytes: &[u8]) -> Result<Words, OutOfMemory>
-    ensures title { IfOk result (λ own. own.title ≡ title_by (document_within bytes.now)) }
-    ensures lines { IfOk result (λ own. own.lines.items ≡ lines_by rows.now (document_within bytes.now)) }
+/// The title of a table, of which a value has the words; empty without one.
+fn title_by(value: &Option<Value>) -> &str
+    ensures { result.now ≡ title_by (option_map view value.now) }
 {
-    match read_document(alloc, bytes) {
-        Ok(value) => Ok(Words {
-            title: text_of(alloc, title_of(&value))?,
-            lines: lines_of(alloc, rows, row_values(&value))?,
-        }),
-        Err(ReadFault::OutOfMemory) => Err(OutOfMemory),
-        Err(_) => Ok(Words {
-            title: text_of(alloc, "")?,
-            lines: Vec::new(alloc),
-        }),
+    match value {
+        Some(value) => title_of(value),
+        None => "",
     }
 }
 
-/// The title and the rows of a text that is a table, or its title.
-pub(crate) fn table_words(alloc: Global, bytes: &[u8]) -> Result<Words, OutOfMemory>
-    ensures title { IfOk result (λ own. own.title ≡ title_by (document_within bytes.now)) }
-    ensures lines { IfOk result (λ own.
-        own.lines.items ≡ table_lines bytes.now) }
+/// The rows of a table.
+fn table_rows(table: &Option<OwnedTable>) -> &[OwnedRow]
+    ensures { result.now ≡ table_rows table.now }
 {
-    match read_table(alloc, bytes) {
-        Ok(table) => words_of(alloc, table.rows.get(), bytes),
-        Err(TableFault::OutOfMemory) => Err(OutOfMemory),
-        Err(_) => words_of(alloc, &[], bytes),
+    match table {
+        Some(table) => table.rows.get(),
+        None => &[],
     }
 }
 
-/// What the page of the table in a file shows, with what `M` decides of it. `OutOfMemory` if an
-/// allocation was refused.
-pub fn drawing_of<M: MoreFindings>(alloc: Global, file: &TableFile) -> Result<Drawing, OutOfMemory>
-    ensures drawing { IfOk result (λ drawing. drawing ≡ drawing_of file.now drawing.checked) }
-    ensures checked { IfOk result (λ drawing. IsChecked M.finds file.now drawing.checked) }
+/// The rows of a table as the page shows them, of which a value has the words; none without one.
+fn lines_by(
+    alloc: Global,
+    rows: &[OwnedRow],
+    value: &Option<Value>,
+) -> Result<Vec<PictureRow>, OutOfMemory>
+    ensures { IfOk result (λ lines. lines.items ≡ lines_by rows.now (option_map view value.now)) }
 {
-    let checked = check_table::<M>(alloc, &file.name, file.bytes.get())?;
-    let Words { title, lines } = table_words(alloc, file.bytes.get())?;
+    match value {
+        Some(value) => lines_of(alloc, rows, row_values(value)),
+        None => Ok(Vec::new(alloc)),
+    }
+}
+
+/// The rows of a table as the page shows them, by what one reading of its file found.
+pub(crate) fn reading_lines(
+    alloc: Global,
+    reading: &TableReading,
+) -> Result<Vec<PictureRow>, OutOfMemory>
+    ensures { IfOk result (λ lines. lines.items ≡ reading_lines reading.now) }
+{
+    lines_by(alloc, table_rows(&reading.table), &reading.value)
+}
+
+/// What the page of a table shows, by what one reading of its file found and the result of its
+/// check. `OutOfMemory` if an allocation was refused.
+pub fn drawing_of(
+    alloc: Global,
+    reading: &TableReading,
+    checked: TableCheck,
+) -> Result<Drawing, OutOfMemory>
+    ensures { IfOk result (λ drawing. drawing ≡ drawing_of reading.now checked) }
+{
+    let title = text_of(alloc, title_by(&reading.value))?;
+    let lines = reading_lines(alloc, reading)?;
+    let paths = paths_of(alloc, &checked.promises)?;
     Ok(Drawing {
         checked,
         title,
         lines: Items::new(lines),
+        paths: Items::new(paths),
     })
 }

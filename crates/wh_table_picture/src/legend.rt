@@ -3,9 +3,9 @@ ghost use Rattle.std.specs.Prelude.{◌≡◌, Some};
 ghost use Rattle.wh_html.specs.Html.{bytes, each};
 ghost use Rattle.wh_table_picture.specs.Pictures.{taken_html, path_html, legend_html};
 
+use crate::paths::RowPath;
 use std::fmt;
 use wh_html::Escaped;
-use wh_table_check::RowPath;
 
 /// The number of a row that a path takes, with a space before it.
 #[derive(Drop)]

@@ -2,18 +2,19 @@
 #![tactic(auto)]
 
 mod cells;
-mod commands;
 mod drawing;
 mod layout;
 mod legend;
 mod marks;
 mod page;
+mod paths;
 mod picture;
+mod promises;
 mod style;
 
-pub use commands::picture_command;
 pub use drawing::{Drawing, drawing_of};
-pub use layout::{PictureRow, StateMark};
+pub use layout::{PictureRow, RowWay, StateMark};
 pub use marks::{Marks, marked_table};
 pub use page::write_page;
+pub use paths::RowPath;
 pub use picture::MarkedPicture;

@@ -4,10 +4,11 @@ ghost use Rattle.std.specs.List.{list_any};
 ghost use Rattle.wh_table_picture.specs.Drawings.{table_lines};
 ghost use Rattle.wh_table_picture.specs.Marking.{is_last, state_mark, marked_line, marked};
 
-use crate::drawing::{Words, table_words};
+use crate::drawing::reading_lines;
 use crate::layout::{PictureRow, StateMark, has_row};
 use std::alloc::Global;
 use wh_events::{Items, OutOfMemory, Text};
+use wh_table_text::table_reading;
 
 /// What is marked in the picture of a table: a path through its rows.
 #[derive(Drop)]
@@ -93,6 +94,7 @@ pub fn marked_table(
 ) -> Result<Items<PictureRow>, OutOfMemory>
     ensures { IfOk result (λ lines. lines ≡ marked marks.now (table_lines bytes.now)) }
 {
-    let Words { lines, .. } = table_words(alloc, bytes)?;
+    let reading = table_reading(alloc, bytes)?;
+    let lines = reading_lines(alloc, &reading)?;
     marked_rows(alloc, marks, lines)
 }

@@ -4,18 +4,20 @@ ghost use Rattle.std.specs.Io.KnownBytes.{Appends};
 ghost use Rattle.wh_html.specs.Html.{bytes, each};
 ghost use Rattle.wh_table_picture.specs.Pages.{verdict_class, head_html, verdict_html, front_html, item_html};
 ghost use Rattle.wh_table_picture.specs.Pages.{cell_html, when_html, table_row_html, table_html};
-ghost use Rattle.wh_table_picture.specs.Pages.{items_html, more_html, states_html, page_html};
+ghost use Rattle.wh_table_picture.specs.Pages.{items_html, states_html, page_html};
 
 use crate::drawing::Drawing;
 use crate::layout::PictureRow;
 use crate::legend::Legend;
+use crate::paths::RowPath;
 use crate::picture::TablePicture;
+use crate::promises::Promises;
 use crate::style::{STYLE_OF_PAGE, STYLE_OF_PRINT, STYLE_OF_ROWS};
 use std::io::Write;
 use std::{fmt, io};
 use wh_events::Text;
 use wh_html::Escaped;
-use wh_table_check::{RowPath, TableCheck, TableFinding, is_good, verdict_word};
+use wh_table_check::{TableCheck, TableFinding, is_good, verdict_word};
 
 /// The most characters of a name that a page shows.
 const NAME: usize = 300;
@@ -145,28 +147,6 @@ impl fmt::Display for FindingList<'_> {
     }
 }
 
-/// What else is found, if it is something.
-#[derive(Drop)]
-struct MorePart<'a>(&'a Text);
-
-impl fmt::Display for MorePart<'_> {
-    ghost output = { λ own. Some (bytes (more_html own.0.now)) };
-
-    fn fmt<W: fmt::Write>(&self, f: &mut fmt::Formatter<W>) -> fmt::Result {
-        if self.0.get().is_empty() {
-            return Ok(());
-        }
-        let lines = Escaped {
-            text: self.0,
-            most: 100_000,
-        };
-        write!(
-            f,
-            "<section>\n<h2>Further</h2>\n<pre>{lines}</pre>\n</section>\n"
-        )
-    }
-}
-
 /// A cell of the table.
 #[derive(Drop)]
 struct Cell<'a>(&'a Text);
@@ -271,10 +251,10 @@ impl fmt::Display for States<'_> {
     }
 }
 
-/// Writes the page of a table as one HTML file: the verdict, its faults and warnings, a picture of
-/// its states (inline SVG, no script), in which the rows of each path that breaks a promise are
-/// marked, and its rows as a table. Whatever the table holds stands there as text. After an error
-/// some of it may have been written.
+/// Writes the page of a table as one HTML file: the verdict, its faults and warnings, its promises,
+/// each with a mark, a picture of its states (inline SVG, no script), in which the rows of each
+/// path that breaks a promise are marked, and its rows as a table. Whatever the table holds stands
+/// there as text. After an error some of it may have been written.
 #[tactic(auto, unfolding(crate::specs::Pages::page_html))]
 pub fn write_page<W: Write>(drawing: &Drawing, writer: &mut W) -> io::Result<()>
     ensures { OnOk result (Appends (W.contents writer.old) (W.contents writer.new) (bytes (page_html drawing.now))) }
@@ -288,13 +268,13 @@ pub fn write_page<W: Write>(drawing: &Drawing, writer: &mut W) -> io::Result<()>
         heading: "Warnings",
         list: drawing.checked.warnings.get(),
     };
-    let more = MorePart(&drawing.checked.more.text);
+    let promises = Promises(&drawing.checked.promises);
     let states = States {
-        paths: drawing.checked.more.paths.get(),
+        paths: drawing.paths.get(),
         lines: drawing.lines.get(),
     };
     write!(
         writer,
-        "{front}{faults}{warnings}{more}{states}</main>\n</body>\n</html>\n"
+        "{front}{faults}{warnings}{promises}{states}</main>\n</body>\n</html>\n"
     )
 }

@@ -2,16 +2,17 @@
 ghost use Rattle.std.specs.Prelude.{◌≡◌, Some};
 ghost use Rattle.wh_html.specs.Html.{bytes, each};
 ghost use Rattle.wh_table_picture.specs.Pictures.{top_of, lane_of, name_class, conditions_html, gives_html, marks_html, edge_html};
+ghost use Rattle.wh_table_picture.specs.Pictures.{lanes, target_html, stub_html};
 ghost use Rattle.wh_table_picture.specs.Pictures.{is_taken, row_class};
-ghost use Rattle.wh_table_picture.specs.Pictures.{tip_html, way_to_html, way_html, state_html, job_html, commands_html};
+ghost use Rattle.wh_table_picture.specs.Pictures.{tip_html, arrow_html, way_to_html, way_html, state_html, job_html, commands_html};
 ghost use Rattle.wh_table_picture.specs.Pictures.{mark_class, end_class, row_html, drawn_html, picture_html, marked_html};
 
-use crate::layout::{PictureRow, StateMark, has_row};
+use crate::layout::{PictureRow, RowWay, StateMark, has_row};
+use crate::paths::RowPath;
 use crate::style::{STYLE_OF_MARKS, STYLE_OF_ROWS};
 use std::fmt;
 use wh_events::Text;
 use wh_html::Escaped;
-use wh_table_check::RowPath;
 
 /// Where a row begins, from above.
 fn top_of(place: usize) -> u64
@@ -20,11 +21,14 @@ fn top_of(place: usize) -> u64
     10 + 46 * (place.min(400) as u64)
 }
 
-/// How far to the right the lines to a place go.
-fn lane_of(place: usize) -> u64
-    ensures { result ≡ lane_of place }
+/// How many lanes there are.
+const LANES: usize = 25;
+
+/// How far to the right the lines of a lane go.
+fn lane_of(lane: usize) -> u64
+    ensures { result ≡ lane_of lane }
 {
-    710 + 11 * (place.min(24) as u64)
+    710 + 11 * (lane.min(LANES) as u64)
 }
 
 /// How the name of a state stands that is marked so.
@@ -156,16 +160,16 @@ impl fmt::Display for Edge {
     }
 }
 
-/// The tip of a line to a place.
+/// The tip of a line.
 #[derive(Clone, Copy)]
-struct Tip(usize);
+struct Tip(RowWay);
 
 impl fmt::Display for Tip {
     ghost output = { λ own. Some (bytes (tip_html own.0)) };
 
     fn fmt<W: fmt::Write>(&self, f: &mut fmt::Formatter<W>) -> fmt::Result {
-        let colour = self.0 % 5;
-        let to = top_of(self.0) + 14;
+        let colour = self.0.lane % 5;
+        let to = top_of(self.0.place) + 14;
         write!(
             f,
             "<path class=\"tip to{colour}\" d=\"M690 {to}l9 -5v10z\"/>"
@@ -173,22 +177,22 @@ impl fmt::Display for Tip {
     }
 }
 
-/// Where a row leads to: from its place to that place.
+/// A line from the place of a row, by the lane of its way, to the place where that leads.
 #[derive(Clone, Copy)]
 struct Arrow {
     place: usize,
-    target: usize,
+    way: RowWay,
 }
 
 impl fmt::Display for Arrow {
-    ghost output = { λ own. Some (bytes (way_to_html own.place own.target)) };
+    ghost output = { λ own. Some (bytes (arrow_html own.place own.way)) };
 
     fn fmt<W: fmt::Write>(&self, f: &mut fmt::Formatter<W>) -> fmt::Result {
-        let colour = self.target % 5;
+        let colour = self.way.lane % 5;
         let from = top_of(self.place) + 34;
-        let lane = lane_of(self.target);
-        let to = top_of(self.target) + 14;
-        let tip = Tip(self.target);
+        let lane = lane_of(self.way.lane);
+        let to = top_of(self.way.place) + 14;
+        let tip = Tip(self.way);
         write!(
             f,
             "<path class=\"way to{colour}\" d=\"M690 {from}H{lane}V{to}H698\"/>{tip}"
@@ -196,22 +200,96 @@ impl fmt::Display for Arrow {
     }
 }
 
-/// Where a row leads to, unless it stays in its state.
-#[derive(Clone, Copy)]
-struct WayPart {
-    place: usize,
-    target: Option<usize>,
+/// The name of the state that a way leads to, or that it closes the run.
+#[derive(Drop)]
+struct Target<'a> {
+    closes: bool,
+    name: &'a Text,
 }
 
-impl fmt::Display for WayPart {
-    ghost output = { λ own. Some (bytes (way_html own.place own.target)) };
+impl fmt::Display for Target<'_> {
+    ghost output = { λ own. Some (bytes (target_html own.closes own.name.now)) };
 
     fn fmt<W: fmt::Write>(&self, f: &mut fmt::Formatter<W>) -> fmt::Result {
-        match self.target {
-            Some(target) => {
-                let way = Arrow {
-                    place: self.place,
-                    target,
+        if self.closes {
+            return write!(f, "closed");
+        }
+        let name = Escaped {
+            text: self.name,
+            most: 30,
+        };
+        write!(f, "{name}")
+    }
+}
+
+/// A line from the place of a row that ends with the name of the state to which its way leads.
+#[derive(Drop)]
+struct Stub<'a> {
+    place: usize,
+    way: RowWay,
+    name: &'a Text,
+}
+
+impl fmt::Display for Stub<'_> {
+    ghost output = { λ own. Some (bytes (stub_html own.place own.way own.name.now)) };
+
+    fn fmt<W: fmt::Write>(&self, f: &mut fmt::Formatter<W>) -> fmt::Result {
+        let colour = self.way.lane % 5;
+        let from = top_of(self.place) + 34;
+        let base = top_of(self.place) + 38;
+        let target = Target {
+            closes: self.way.closes,
+            name: self.name,
+        };
+        write!(
+            f,
+            "<path class=\"way to{colour}\" d=\"M690 {from}h14\"/><text class=\"stub\" x=\"708\" y=\"{base}\">&#8594; {target}</text>"
+        )
+    }
+}
+
+/// Where a row leads to: a line there, or a stub with the name if there is no lane for it.
+#[derive(Drop)]
+struct WayTo<'a> {
+    place: usize,
+    way: RowWay,
+    name: &'a Text,
+}
+
+impl fmt::Display for WayTo<'_> {
+    ghost output = { λ own. Some (bytes (way_to_html own.place own.way own.name.now)) };
+
+    fn fmt<W: fmt::Write>(&self, f: &mut fmt::Formatter<W>) -> fmt::Result {
+        if self.way.lane < LANES {
+            let arrow = Arrow {
+                place: self.place,
+                way: self.way,
+            };
+            return write!(f, "{arrow}");
+        }
+        let stub = Stub {
+            place: self.place,
+            way: self.way,
+            name: self.name,
+        };
+        write!(f, "{stub}")
+    }
+}
+
+/// Where a row leads to, unless it stays in its state.
+#[derive(Drop)]
+struct WayPart<'a>(&'a PictureRow);
+
+impl fmt::Display for WayPart<'_> {
+    ghost output = { λ own. Some (bytes (way_html own.0.now)) };
+
+    fn fmt<W: fmt::Write>(&self, f: &mut fmt::Formatter<W>) -> fmt::Result {
+        match self.0.way {
+            Some(way) => {
+                let way = WayTo {
+                    place: self.0.place,
+                    way,
+                    name: &self.0.next,
                 };
                 write!(f, "{way}")
             }
@@ -231,13 +309,17 @@ impl fmt::Display for StateBox<'_> {
         let top = top_of(self.0.place);
         let middle = top_of(self.0.place) + 20;
         let class = name_class(self.0.begins, self.0.mark);
+        let whole = Escaped {
+            text: &self.0.state,
+            most: 300,
+        };
         let state = Escaped {
             text: &self.0.state,
-            most: 20,
+            most: 17,
         };
         write!(
             f,
-            "<rect class=\"box\" x=\"10\" y=\"{top}\" width=\"680\" height=\"46\"/><text class=\"{class}\" x=\"24\" y=\"{middle}\">{state}</text>"
+            "<rect class=\"box\" x=\"10\" y=\"{top}\" width=\"680\" height=\"46\"/><text class=\"{class}\" x=\"24\" y=\"{middle}\"><title>{whole}</title>{state}</text>"
         )
     }
 }
@@ -300,10 +382,7 @@ impl fmt::Display for RowPart<'_> {
             place: self.line.place,
             begins: self.line.begins,
         };
-        let way = WayPart {
-            place: self.line.place,
-            target: self.line.way,
-        };
+        let way = WayPart(self.line);
         write!(
             f,
             "<g class=\"{class}\">{state}{job}{commands}{edge}{way}</g>\n"

@@ -9,12 +9,20 @@ body{margin:0 auto;max-width:72rem;padding:1.5rem 1rem 4rem;background:var(--bg)
 h1{font-size:1.4rem;line-height:1.3;margin:0;overflow-wrap:anywhere;unicode-bidi:isolate}
 h2{font-size:1.1rem;margin:2rem 0 .6rem}
 p,li{overflow-wrap:anywhere;unicode-bidi:isolate}
-pre{margin:0;white-space:pre-wrap;overflow-wrap:anywhere;font:13px/1.5 ui-monospace,SFMono-Regular,Menlo,Consolas,monospace}
 :focus-visible{outline:2px solid var(--c0);outline-offset:2px}
 .verdict{display:inline-block;margin:.6rem 0 0;padding:.2rem .8rem;border-radius:1rem;font-weight:600}
 .ok{color:var(--ok);background:var(--okbg)}
 .bad{color:var(--bad);background:var(--badbg)}
+.soft{color:var(--soft)}
+code{font:13px/1.5 ui-monospace,SFMono-Regular,Menlo,Consolas,monospace}
 ul{margin:0;padding-left:1.2rem}
+.promises,.jobs{margin:0;padding-left:1.6rem}
+.promises>li{padding:.2rem 0}
+.jobs{margin:.2rem 0 .4rem}
+.mark{display:inline-block;min-width:6.8rem;margin-right:.3rem;padding:0 .6rem;border-radius:1rem;font-size:13px;font-weight:600;text-align:center}
+.kept>.mark{color:var(--ok);background:var(--okbg)}
+.broken>.mark{color:var(--bad);background:var(--badbg)}
+.undecided>.mark{color:var(--soft);background:var(--panel);border:1px solid var(--line)}
 .scroll{overflow-x:auto}
 table{border-collapse:collapse;width:100%;font-size:13.5px}
 th,td{text-align:left;padding:.3rem .9rem .3rem 0;border-bottom:1px solid var(--line);vertical-align:top;overflow-wrap:break-word;unicode-bidi:isolate}
@@ -29,6 +37,7 @@ svg text{fill:var(--fg);unicode-bidi:isolate}
 /// The rows of a picture.
 pub const STYLE_OF_ROWS: &str = "svg .soft{fill:var(--soft);font-weight:400}
 svg .name{font-weight:600}
+svg .stub{font-size:12px}
 svg .again{font-weight:400;fill:var(--soft);opacity:.7}
 svg .job{font-weight:600}
 svg .gives{font-size:12px}
@@ -53,7 +62,7 @@ svg .to4{--c:var(--c4)}
 
 /// The page in print.
 pub const STYLE_OF_PRINT: &str =
-    "@media print{body{max-width:none;padding:0;font-size:12px}.scroll{overflow:visible}svg{min-width:0}tr{break-inside:avoid}.verdict,svg *{print-color-adjust:exact;-webkit-print-color-adjust:exact}}
+    "@media print{body{max-width:none;padding:0;font-size:12px}.scroll{overflow:visible}svg{min-width:0}tr,.promises>li{break-inside:avoid}.verdict,.mark,svg *{print-color-adjust:exact;-webkit-print-color-adjust:exact}}
 ";
 
 /// The marks of a picture on the page of a run, by its colours.

@@ -12,7 +12,7 @@ use Rattle.wh_rows.specs.Promises.{Promise, KeptIn, watch_of}
 use Rattle.wh_rows.proofs.Turns.{watched_append}
 use Rattle.wh_rows.proofs.Spent.{kept_spends}
 use Rattle.wh_table_promises.specs.Ways.{text_given, texts_given, row_taken, rows_taken, job_read}
-use Rattle.wh_table_promises.specs.declared.ways.WayStep.{WayStep}
+use Rattle.wh_row_rules.specs.declared.promises.WayStep.{WayStep}
 use Rattle.wh_table_promises.specs.Private.Told.{told_by, given_by, through, spends}
 use Rattle.wh_table_promises.proofs.Leading.{front}
 

@@ -8,10 +8,10 @@ use Rattle.wh_rows.specs.Courses.{course, begins}
 use Rattle.wh_rows.specs.Promises.{Promise, KeptIn, Promises}
 use Rattle.wh_author_tools.specs.JobTexts.{job_of}
 use Rattle.wh_author_tools.specs.CommandTexts.{commands_text}
-use Rattle.wh_table_promises.specs.declared.ways.WayStep.{WayStep}
-use Rattle.wh_table_promises.specs.declared.ways.Breach.{Breach}
-use Rattle.wh_table_promises.specs.declared.deciding.PromiseVerdict.{PromiseVerdict}
-use Rattle.wh_table_promises.specs.declared.deciding.PromiseVerdict.TheVariants as verdicts
+use Rattle.wh_row_rules.specs.declared.promises.WayStep.{WayStep}
+use Rattle.wh_row_rules.specs.declared.promises.Breach.{Breach}
+use Rattle.wh_row_rules.specs.declared.promises.PromiseVerdict.{PromiseVerdict}
+use Rattle.wh_row_rules.specs.declared.promises.PromiseVerdict.TheVariants as verdicts
 
 -- the commands that a job is given, as scenarios write them
 abbrev pub text_given : Definition → RowsState → Job → List ℕ

@@ -1,12 +1,11 @@
 //! The jobs that a search for a path tries.
 use crate::lines::IndexedRow;
-use crate::patterns::text_of;
 use crate::promise::Happening;
 use crate::watch::WatchTurn;
 use std::alloc::{AllocError, Global};
 use wh_author_tools::job_of;
 use wh_events::{OutOfMemory, Text};
-use wh_row_rules::covers;
+use wh_row_rules::{covers, text_of};
 use wh_rows::{JobPattern, Naming};
 
 /// A job that a search tries.

@@ -5,13 +5,13 @@ ghost use Rattle.wh_table_promises.specs.Private.Seen.{turn_seen, standing_seen,
 
 use crate::counters::cut_all;
 use crate::lines::IndexedRow;
-use crate::patterns::{is_among, may_happen, must_happen};
+use crate::patterns::{may_happen, must_happen};
 use crate::turning::watch_after_commands;
 use crate::watch::{WatchState, WatchTurn, new_standing, watch_after_turn};
 use std::alloc::Global;
 use wh_events::{OutOfMemory, Text};
-use wh_row_rules::covers;
-use wh_rows::{Counters, JobPattern, all_hold};
+use wh_row_rules::{covers, is_among};
+use wh_rows::{Counters, JobPattern, UNCOUNTED, all_hold};
 
 /// Where a run and a watch stand together.
 #[derive(Clone, Copy)]
@@ -44,12 +44,7 @@ pub(crate) fn initial_configuration(first: usize) -> Configuration
     Configuration {
         state: first,
         closed: false,
-        counts: Counters {
-            a: 0,
-            b: 0,
-            c: 0,
-            d: 0,
-        },
+        counts: UNCOUNTED,
         watch: new_standing(),
     }
 }

@@ -4,7 +4,7 @@ ghost use Rattle.wh_rows.specs.Deciding.{cut_one, cut_all, asks_within, are_cuts
 ghost use Rattle.wh_table_promises.specs.Private.Asking.{is_within};
 
 use crate::lines::IndexedRow;
-use wh_rows::{Condition, Counters, RowEffect, count_of, increment, with_count};
+use wh_rows::{Condition, Counters, RowEffect, UNCOUNTED, count_of, increment, with_count};
 
 /// What one thing that a row does besides leaves of cut counters.
 fn cut_one(tops: Counters, effect: RowEffect, counts: Counters) -> Counters
@@ -84,12 +84,7 @@ fn asked_one(conditions: &[Condition], tops: Counters) -> Counters {
 
 /// Where counters are cut: at the greatest number that a row asks for.
 pub(crate) fn cuts_of(lines: &[IndexedRow]) -> Counters {
-    let mut tops = Counters {
-        a: 0,
-        b: 0,
-        c: 0,
-        d: 0,
-    };
+    let mut tops = UNCOUNTED;
     for line in lines {
         tops = asked_one(line.row.conditions.get(), tops);
     }

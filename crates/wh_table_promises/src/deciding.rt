@@ -17,38 +17,16 @@ use crate::promise::TablePromise;
 use crate::search::{Search, SearchEnd, begin_search, search_all, search_way};
 use crate::shortest::keep_from_start;
 use crate::watch::{WatchTurn, budget_of, turns_of};
-use crate::ways::{Breach, WayStep, follow_jobs, steps_of};
+use crate::ways::{follow_jobs, steps_of};
 use std::alloc::Global;
 use wh_author_tools::job_of;
 use wh_events::{OutOfMemory, Text};
-use wh_row_rules::OwnedTable;
+use wh_row_rules::{Breach, Doubt, OwnedTable, PromiseVerdict, WayStep};
 use wh_workflow::Job;
 
 /// The greatest number that the search counts to: what happens at most so often also happens at
 /// most as often as any greater number says.
 const MOST_BUDGET: u64 = 4_611_686_018_427_387_903;
-
-/// Why it is not decided whether a promise is kept.
-#[derive(Clone, Copy, Debug)]
-pub enum Doubt {
-    /// There are more than `MOST_CONFIGURATIONS` configurations: states of a run, its counters and
-    /// what the promise has seen. Or the search would have to count past 2^62 - 1.
-    TooMany,
-    /// No path was found that breaks it in a run that is started without input, and it is not shown
-    /// for each name that a run may have.
-    ByName,
-}
-
-/// Whether a promise is kept.
-#[derive(Drop)]
-pub enum PromiseVerdict {
-    /// It is, whatever jobs come.
-    Kept,
-    /// It is broken in this way.
-    Broken(Breach),
-    /// It is not decided.
-    NotDecided(Doubt),
-}
 
 /// Whether the configurations that were found show the promise.
 fn shows(

@@ -23,7 +23,6 @@ mod turning;
 mod watch;
 mod ways;
 
-pub use deciding::{Doubt, PromiseVerdict, decide};
+pub use deciding::decide;
 pub use found::MOST_CONFIGURATIONS;
 pub use promise::{Happening, TablePromise};
-pub use ways::{Breach, WayStep};

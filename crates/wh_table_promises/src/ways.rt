@@ -15,29 +15,9 @@ use crate::watch::{WatchState, WatchTurn, new_standing, watch_after_turn};
 use std::alloc::{AllocError, Global};
 use wh_author_tools::commands_text;
 use wh_events::{Items, OutOfMemory, Text};
-use wh_row_rules::{OwnedRow, OwnedTable};
-use wh_rows::{Counters, RowsState, StateName, all_hold, answer, is_for_job, take_start};
+use wh_row_rules::{OwnedRow, OwnedTable, WayStep};
+use wh_rows::{RowsState, StateName, UNCOUNTED, all_hold, answer, is_for_job, take_start};
 use wh_workflow::{Command, Job, no_payloads, text_of};
-
-/// A line of a scenario that breaks a promise: a job, and the commands that it is given.
-#[derive(Drop)]
-pub struct WayStep {
-    /// The job, as scenarios write it.
-    pub job: Text,
-    /// The commands, as scenarios write them.
-    pub gives: Text,
-    /// The number of the row that counts, counted from 1. `None` if no row fits.
-    pub row: Option<usize>,
-}
-
-/// How a promise is broken.
-#[derive(Drop)]
-pub struct Breach {
-    /// A scenario that breaks it.
-    pub way: Vec<WayStep>,
-    /// Whether it is shown that none of fewer jobs does.
-    pub is_shortest: bool,
-}
 
 /// Whether this happens by the job that comes.
 fn comes(what: &Happening, state: &RowsState, job: &Job) -> bool
@@ -153,12 +133,7 @@ fn first_run(alloc: Global, table: &OwnedTable) -> Result<RowsState, OutOfMemory
         name: text_of(alloc, "")?,
         input: no_payloads(alloc),
         kept: no_payloads(alloc),
-        counts: Counters {
-            a: 0,
-            b: 0,
-            c: 0,
-            d: 0,
-        },
+        counts: UNCOUNTED,
     })
 }
 

@@ -15,9 +15,9 @@ use Rattle.wh_table_text.specs.declared.fault.RowFault.TheVariants as rules
 use Rattle.wh_table_text.specs.declared.counters.NamedCounter.{NamedCounter}
 use Rattle.wh_table_text.specs.Counters.{bounds_of}
 use Rattle.wh_table_text.specs.Numbered.{numbered}
-use Rattle.wh_table_text.specs.Outcome.{◌>>=◌, or_fault, passes, faultless, all_of}
-use Rattle.wh_table_text.specs.Reading.{first_state, row_at, rows_from, rows_in, shape_of, table_of, or_not_json, of_rows, rules_fault}
-use Rattle.wh_table_text.specs.Faults.{fault_in, or_next, counters_in, few_rows, rows_listed, unread, unread_rows, shape_faults, breaks, by_first, rule_faults, document_faults, FirstStopsReading}
+use Rattle.wh_or_memory.specs.Outcome.{◌>>=◌, or_fault, passes, faultless, all_of}
+use Rattle.wh_table_text.specs.Reading.{first_state, row_at, rows_from, rows_in, shape_of, table_from, table_of, or_not_json, of_rows, rules_fault}
+use Rattle.wh_table_text.specs.Faults.{fault_in, or_next, counters_in, few_rows, rows_listed, unread, unread_rows, shape_faults, breaks, by_first, rule_faults, value_faults, document_faults, FirstStopsReading}
 
 -- ---- Rows that can't be read
 
@@ -151,3 +151,13 @@ text_from (Err fault) = refl
 pub first_stops_reading : FirstStopsReading
 unfolding table_of
 first_stops_reading bytes = text_from (document_within bytes)
+
+nothing_first : (listed : List TableFault) → slice_get listed 0 ≡ None → listed ≡ []
+nothing_first [] is = refl
+nothing_first (one ∷ rest) is = cc
+
+-- a value that is a table has no fault
+pub faultless_table : (d : Data) (table : OwnedTable) → table_from d ≡ Ok table → value_faults d ≡ []
+unfolding table_from
+faultless_table d table is =
+    nothing_first (value_faults d) (value_from (shape_faults d) (shape_of d) (shape_first d) ∙ ap fault_in is)

@@ -1,7 +1,5 @@
-pub mod Outcome
 pub mod Words
 pub mod Verbs
-pub mod VerbGroups
 pub mod Numbers
 pub mod Counters
 pub mod Phrases
@@ -10,3 +8,4 @@ pub mod RowParts
 pub mod Texts
 pub mod Numbered
 pub mod Faults
+pub mod TableReadings

@@ -19,7 +19,7 @@ use Rattle.wh_table_text.specs.declared.fault.TableFault.{TableFault}
 use Rattle.wh_table_text.specs.declared.fault.TableFault.TheVariants as faults
 use Rattle.wh_table_text.specs.declared.fault.RowFault.TheVariants as rules
 use Rattle.wh_table_text.specs.declared.counters.NamedCounter.{NamedCounter}
-use Rattle.wh_table_text.specs.Outcome.{◌>>=◌, or_fault, passes, faultless, all_of}
+use Rattle.wh_or_memory.specs.Outcome.{◌>>=◌, or_fault, passes, faultless, all_of}
 use Rattle.wh_table_text.specs.Words.{phrase}
 use Rattle.wh_table_text.specs.Verbs.{job_verb, command_verb}
 use Rattle.wh_table_text.specs.Phrases.{pattern_of, template_of, condition_of, effect_of, naming_of}
@@ -81,6 +81,13 @@ templates_at row value = do
   texts ← phrases_at (faults.InRow row rules.NotText) value
   all_of (map (template_at row) texts)
 
+-- the phrases of the conditions, or of the marks, of a row: at most 16
+unfoldable pub few_phrases : ℕ → Option Data → Result (List (List ℕ)) TableFault
+few_phrases row value = do
+  texts ← phrases_at (faults.InRow row rules.NotText) value
+  few ← passes (faults.InRow row rules.TooManyPhrases) (leb (length texts) 16)
+  Ok texts
+
 -- the condition that a text describes
 unfoldable pub condition_at : List NamedCounter → ℕ → List ℕ → Result Condition TableFault
 condition_at names row text = or_fault (faults.InRow row rules.UnknownCondition) (condition_of names (phrase text))
@@ -88,8 +95,7 @@ condition_at names row text = or_fault (faults.InRow row rules.UnknownCondition)
 -- the conditions of a row
 unfoldable pub conditions_at : List NamedCounter → ℕ → Option Data → Result (List Condition) TableFault
 conditions_at names row value = do
-  texts ← phrases_at (faults.InRow row rules.NotText) value
-  few ← passes (faults.InRow row rules.TooManyPhrases) (leb (length texts) 16)
+  texts ← few_phrases row value
   all_of (map (condition_at names row) texts)
 
 -- the mark that a text describes
@@ -99,8 +105,7 @@ effect_at names row text = or_fault (faults.InRow row rules.UnknownMark) (effect
 -- the marks of a row
 unfoldable pub effects_at : List NamedCounter → ℕ → Option Data → Result (List RowEffect) TableFault
 effects_at names row value = do
-  texts ← phrases_at (faults.InRow row rules.NotText) value
-  few ← passes (faults.InRow row rules.TooManyPhrases) (leb (length texts) 16)
+  texts ← few_phrases row value
   all_of (map (effect_at names row) texts)
 
 -- a list of at most six members
@@ -204,6 +209,13 @@ of_rows (broken_rows.InRow row rule) = faults.InRow row (rules.Breaks rule)
 -- the first rule that a table breaks, as a fault
 abbrev pub rules_fault : OwnedTable → Option TableFault
 rules_fault table = option_map of_rows (option_map broken (table_fault (definition table)))
+
+-- the table that a JSON value describes, or its first fault
+unfoldable pub table_from : Data → Result OwnedTable TableFault
+table_from d = do
+  table ← shape_of d
+  kept ← faultless (rules_fault table)
+  Ok table
 
 -- the table that a JSON text describes, or its first fault
 unfoldable pub table_of : List ℕ → Result OwnedTable TableFault

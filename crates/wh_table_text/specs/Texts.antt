@@ -45,4 +45,3 @@ fault_text faults.BadCounters = codes "counters are at most four texts, each a n
 fault_text faults.BadName = codes "the name is not written so: payload NUMBER PREFIX OTHER"
 fault_text (faults.InRow row fault) = codes "row " ++ (decimal row ++ (codes ": " ++ row_text fault))
 fault_text faults.BeginsNowhere = codes "the table has no row"
-fault_text faults.OutOfMemory = codes "out of memory"

@@ -1,5 +1,5 @@
 -- The first words of phrases.
-use Rattle.std.specs.Prelude.{ℕ, List, bytes_eq, codes, Option, Some, None, if◌then◌else◌}
+use Rattle.std.specs.Prelude.{ℕ, List, [], ◌∷◌, bytes_eq, codes, Option, Some, None, if◌then◌else◌}
 use Rattle.wh_rows.specs.declared.row.Source.{Source}
 use Rattle.wh_rows.specs.declared.row.Source.TheVariants as sources
 use Rattle.wh_table_text.specs.declared.verbs.JobVerb.{JobVerb}
@@ -7,45 +7,65 @@ use Rattle.wh_table_text.specs.declared.verbs.JobVerb.TheVariants as job
 use Rattle.wh_table_text.specs.declared.verbs.CommandVerb.{CommandVerb}
 use Rattle.wh_table_text.specs.declared.verbs.CommandVerb.TheVariants as command
 
+-- the meaning of a word, by a list of words with their meanings
+abbrev pub meaning : {A : Type 0} → List (List ℕ × A) → List ℕ → Option A
+meaning [] word = None
+meaning (entry ∷ rest) word = if bytes_eq word entry.0 then Some entry.1 else meaning rest word
+
+-- the first words of jobs that are about a child workflow or a version
+abbrev pub child_verbs : List (List ℕ × JobVerb)
+child_verbs =
+    (codes "child-started", job.ChildStarted)
+    ∷ (codes "child-done", job.ChildDone)
+    ∷ (codes "child-canceled", job.ChildCanceled)
+    ∷ (codes "child-failed", job.ChildFailed)
+    ∷ (codes "version", job.Version)
+    ∷ []
+
 -- what the first word of a job means
 unfoldable pub job_verb : List ℕ → Option JobVerb
-job_verb word =
-    if bytes_eq word (codes "start") then Some job.Start
-    else if bytes_eq word (codes "signal") then Some job.Signal
-    else if bytes_eq word (codes "cancel") then Some job.Cancel
-    else if bytes_eq word (codes "done") then Some job.Done
-    else if bytes_eq word (codes "failed") then Some job.Failed
-    else if bytes_eq word (codes "fired") then Some job.Fired
-    else if bytes_eq word (codes "child-started") then Some job.ChildStarted
-    else if bytes_eq word (codes "child-done") then Some job.ChildDone
-    else if bytes_eq word (codes "child-canceled") then Some job.ChildCanceled
-    else if bytes_eq word (codes "child-failed") then Some job.ChildFailed
-    else if bytes_eq word (codes "version") then Some job.Version
-    else None
+job_verb word = meaning (
+    (codes "start", job.Start)
+    ∷ (codes "signal", job.Signal)
+    ∷ (codes "cancel", job.Cancel)
+    ∷ (codes "done", job.Done)
+    ∷ (codes "failed", job.Failed)
+    ∷ (codes "fired", job.Fired)
+    ∷ child_verbs) word
+
+-- the first words of commands that close the run
+abbrev pub closing_verbs : List (List ℕ × CommandVerb)
+closing_verbs =
+    (codes "complete", command.Complete)
+    ∷ (codes "fail", command.Fail)
+    ∷ (codes "cancel", command.Cancel)
+    ∷ (codes "continue", command.Continue)
+    ∷ (codes "again", command.Again)
+    ∷ []
+
+-- the first words of commands that are about another run, ask for a version or close the run
+abbrev pub run_verbs : List (List ℕ × CommandVerb)
+run_verbs =
+    (codes "child", command.Child)
+    ∷ (codes "cancel-child", command.CancelChild)
+    ∷ (codes "signal", command.Signal)
+    ∷ (codes "ask", command.Ask)
+    ∷ closing_verbs
 
 -- what the first word of a command means
 unfoldable pub command_verb : List ℕ → Option CommandVerb
-command_verb word =
-    if bytes_eq word (codes "activity") then Some command.Activity
-    else if bytes_eq word (codes "cancel-activity") then Some command.CancelActivity
-    else if bytes_eq word (codes "timer") then Some command.Timer
-    else if bytes_eq word (codes "cancel-timer") then Some command.CancelTimer
-    else if bytes_eq word (codes "child") then Some command.Child
-    else if bytes_eq word (codes "cancel-child") then Some command.CancelChild
-    else if bytes_eq word (codes "signal") then Some command.Signal
-    else if bytes_eq word (codes "ask") then Some command.Ask
-    else if bytes_eq word (codes "complete") then Some command.Complete
-    else if bytes_eq word (codes "fail") then Some command.Fail
-    else if bytes_eq word (codes "cancel") then Some command.Cancel
-    else if bytes_eq word (codes "continue") then Some command.Continue
-    else if bytes_eq word (codes "again") then Some command.Again
-    else None
+command_verb word = meaning (
+    (codes "activity", command.Activity)
+    ∷ (codes "cancel-activity", command.CancelActivity)
+    ∷ (codes "timer", command.Timer)
+    ∷ (codes "cancel-timer", command.CancelTimer)
+    ∷ run_verbs) word
 
 -- the source of an input or a result that a word names
 abbrev pub source_of : List ℕ → Option Source
-source_of word =
-    if bytes_eq word (codes "") then Some sources.Nothing
-    else if bytes_eq word (codes "input") then Some sources.Input
-    else if bytes_eq word (codes "brought") then Some sources.Brought
-    else if bytes_eq word (codes "kept") then Some sources.Kept
-    else None
+source_of word = meaning (
+    (codes "", sources.Nothing)
+    ∷ (codes "input", sources.Input)
+    ∷ (codes "brought", sources.Brought)
+    ∷ (codes "kept", sources.Kept)
+    ∷ []) word

@@ -1,26 +1,22 @@
 //! Copies borrowed texts into owned ones.
 ghost use Rattle.std.specs.Prelude.{◌≡◌, Ok};
 ghost use Rattle.wh_table_text.specs.Phrases.{pattern_shown, template_shown, naming_shown};
-ghost use Rattle.wh_table_text.specs.Outcome.{Gives};
+ghost use Rattle.wh_or_memory.specs.Outcome.{Gives};
 
-use crate::fault::TableFault;
+use crate::fault::ReadResult;
 use std::alloc::Global;
 use wh_events::Text;
 use wh_rows::{CommandTemplate, JobPattern, Naming};
 
 /// Returns an owned copy of the text.
-pub(crate) fn text_copy(alloc: Global, text: &str) -> Result<Text, TableFault>
+pub(crate) fn text_copy(alloc: Global, text: &str) -> ReadResult<Text>
     ensures { Gives (λ text. text) result (Ok text.now) }
 {
     Ok(Text::new(String::from_str(alloc, text)?))
 }
 
 /// Returns owned copies of two texts.
-pub(crate) fn text_pair(
-    alloc: Global,
-    first: &str,
-    second: &str,
-) -> Result<(Text, Text), TableFault>
+pub(crate) fn text_pair(alloc: Global, first: &str, second: &str) -> ReadResult<(Text, Text)>
     ensures first { Gives (λ texts. texts.0) result (Ok first.now) }
     ensures second { Gives (λ texts. texts.1) result (Ok second.now) }
 {
@@ -33,7 +29,7 @@ pub(crate) fn text_pair(
 pub(crate) fn pattern_copy(
     alloc: Global,
     pattern: &JobPattern<&str>,
-) -> Result<JobPattern<Text>, TableFault>
+) -> ReadResult<JobPattern<Text>>
     ensures { Gives (λ pattern. pattern) result (Ok (pattern_shown pattern.now)) }
 {
     Ok(match pattern {
@@ -56,7 +52,7 @@ pub(crate) fn pattern_copy(
 pub(crate) fn template_copy(
     alloc: Global,
     template: &CommandTemplate<&str>,
-) -> Result<CommandTemplate<Text>, TableFault>
+) -> ReadResult<CommandTemplate<Text>>
     ensures { Gives (λ template. template) result (Ok (template_shown template.now)) }
 {
     Ok(match template {
@@ -93,7 +89,7 @@ pub(crate) fn template_copy(
 }
 
 /// Returns a copy of the naming that owns its texts.
-pub(crate) fn naming_copy(alloc: Global, naming: &Naming<&str>) -> Result<Naming<Text>, TableFault>
+pub(crate) fn naming_copy(alloc: Global, naming: &Naming<&str>) -> ReadResult<Naming<Text>>
     ensures { Gives (λ naming. naming) result (Ok (naming_shown naming.now)) }
 {
     Ok(match naming {

@@ -2,14 +2,15 @@
 ghost use Rattle.std.specs.Prelude.{◌≡◌};
 ghost use Rattle.wh_table_text.specs.Words.{phrase_seen};
 ghost use Rattle.wh_table_text.specs.Counters.{counter_of, counter_at, named_from, bound_at, bounds_of};
-ghost use Rattle.wh_table_text.specs.Outcome.{Gives};
+ghost use Rattle.wh_or_memory.specs.Outcome.{Gives};
 
 use crate::copies::text_copy;
-use crate::fault::TableFault;
+use crate::fault::{ReadResult, TableFault};
 use crate::numbers::number_in;
 use crate::words::PhraseWords;
 use std::alloc::Global;
 use wh_events::Text;
+use wh_or_memory::OrMemory;
 use wh_rows::{Counter, Counters};
 
 /// A counter with its name in the table.
@@ -75,17 +76,17 @@ pub(crate) fn bounds_of(names: &[NamedCounter]) -> Counters
 }
 
 /// Returns the counter of a phrase, its name and its bound.
-pub(crate) fn counter_of(alloc: Global, phrase: &PhraseWords) -> Result<NamedCounter, TableFault>
+pub(crate) fn counter_of(alloc: Global, phrase: &PhraseWords) -> ReadResult<NamedCounter>
     ensures { Gives (λ counter. counter) result (counter_of (phrase_seen phrase.now)) }
 {
     if !phrase.is_named() {
-        return Err(TableFault::BadCounters);
+        return Err(OrMemory::Fault(TableFault::BadCounters));
     }
     match number_in(phrase.first) {
         Some(bound) => Ok(NamedCounter {
             name: text_copy(alloc, phrase.verb)?,
             bound,
         }),
-        None => Err(TableFault::BadCounters),
+        None => Err(OrMemory::Fault(TableFault::BadCounters)),
     }
 }

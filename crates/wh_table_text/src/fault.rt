@@ -1,11 +1,11 @@
 //! Why a text is not a table.
 ghost use Rattle.std.specs.Prelude.{◌≡◌, codes, IfOk};
-ghost use Rattle.wh_table_text.specs.declared.fault.TableFault.TheVariants.{OutOfMemory};
 ghost use Rattle.wh_table_text.specs.Reading.{of_rows};
 ghost use Rattle.wh_table_text.specs.Texts.{rule_text, row_text, fault_text};
 
-use std::alloc::{AllocError, AllocFailed, Global};
+use std::alloc::{AllocError, Global};
 use wh_events::Text;
+use wh_or_memory::OrMemory;
 use wh_row_rules::{BrokenRule, RowsFault};
 
 /// What is wrong with a row.
@@ -59,25 +59,10 @@ pub enum TableFault {
     },
     /// There is no row.
     BeginsNowhere,
-    /// An allocation was refused. It can replace any other fault, and does not depend on the table.
-    OutOfMemory,
 }
 
-impl From<AllocError> for TableFault {
-    ghost from_gives = { λ _ e. e ≡ OutOfMemory };
-
-    fn from(_refused: AllocError) -> TableFault {
-        TableFault::OutOfMemory
-    }
-}
-
-impl<T: Drop> From<AllocFailed<T>> for TableFault {
-    ghost from_gives = { λ _ e. e ≡ OutOfMemory };
-
-    fn from(_refused: AllocFailed<T>) -> TableFault {
-        TableFault::OutOfMemory
-    }
-}
+/// What reading a part of a table returns: it, or the first fault unless memory ran out.
+pub(crate) type ReadResult<T> = Result<T, OrMemory<TableFault>>;
 
 /// Returns the fault of a table whose rows break a rule.
 pub(crate) fn of_rows(fault: RowsFault) -> TableFault
@@ -198,6 +183,5 @@ pub fn fault_text(alloc: Global, fault: TableFault) -> Result<Text, AllocError>
         }
         TableFault::InRow { row, fault } => numbered_text(alloc, row, fault),
         TableFault::BeginsNowhere => owned_text(alloc, "the table has no row"),
-        TableFault::OutOfMemory => owned_text(alloc, "out of memory"),
     }
 }

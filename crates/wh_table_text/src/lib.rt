@@ -45,13 +45,14 @@ mod numbers;
 mod phrases;
 mod reading;
 mod rows;
+mod tables;
 mod verbs;
 mod words;
 
 pub use fault::{RowFault, TableFault, fault_text};
-pub use listing::list_faults;
 pub use lists::phrases_at;
 pub use numbers::number_in;
 pub use reading::read_table;
 pub use rows::own_job_at;
+pub use tables::{TableReading, table_reading};
 pub use words::{rest, word};

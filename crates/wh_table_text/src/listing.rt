@@ -1,20 +1,21 @@
-//! Lists all faults of a JSON text as a table.
+//! Lists all faults of a JSON value as a table.
 ghost use Rattle.std.specs.Prelude.{◌≡◌, ◌<◌, ◌+◌, ◌^◌, ◌++◌, codes, map, option_to_list, IfOk, OnOk, Ok, Some};
 ghost use Rattle.serde_json.specs.View.{view};
 ghost use Rattle.wh_json.specs.Fields.{field};
 ghost use Rattle.wh_table_text.specs.Numbered.{numbered};
 ghost use Rattle.wh_table_text.specs.Reading.{naming_at, row_at, rows_in, shape_of};
 ghost use Rattle.wh_table_text.specs.Faults.{fault_in, is_none, counters_in, few_rows, part_faults, unread, unread_rows, rows_listed};
-ghost use Rattle.wh_table_text.specs.Faults.{shape_faults, breaks, rule_faults, value_faults, faults_of};
+ghost use Rattle.wh_table_text.specs.Faults.{shape_faults, breaks, rule_faults, value_faults};
 
 use crate::counters::NamedCounter;
 use crate::fault::{RowFault, TableFault};
-use crate::reading::{MOST_ROWS, counters_at, document, is_known, naming_at, rows_in, shape_of};
+use crate::reading::{MOST_ROWS, counters_at, is_known, naming_at, rows_in, shape_of};
 use crate::rows::row_at;
 use serde_json::Value;
 use std::alloc::Global;
 use wh_events::OutOfMemory;
 use wh_json::field;
+use wh_or_memory::OrMemory;
 use wh_row_rules::{OwnedRow, OwnedTable, RowsFault, row_rule, table_fault};
 
 /// Returns whether there is no fault.
@@ -25,7 +26,7 @@ fn is_none(faults: &[TableFault]) -> bool
 }
 
 /// Returns a list of this one fault.
-fn only(alloc: Global, fault: TableFault) -> Result<Vec<TableFault>, OutOfMemory>
+pub(crate) fn only(alloc: Global, fault: TableFault) -> Result<Vec<TableFault>, OutOfMemory>
     ensures { IfOk result (λ faults. faults.items ≡ option_to_list (Some fault)) }
 {
     let mut faults = Vec::new(alloc);
@@ -65,8 +66,8 @@ fn counters_fault(alloc: Global, value: &Value) -> Result<Option<TableFault>, Ou
 {
     match counters_at(alloc, field(Some(value), "counters")) {
         Ok(_) => Ok(None),
-        Err(TableFault::OutOfMemory) => Err(OutOfMemory),
-        Err(fault) => Ok(Some(fault)),
+        Err(OrMemory::OutOfMemory) => Err(OutOfMemory),
+        Err(OrMemory::Fault(fault)) => Ok(Some(fault)),
     }
 }
 
@@ -76,8 +77,8 @@ fn name_fault(alloc: Global, value: &Value) -> Result<Option<TableFault>, OutOfM
 {
     match naming_at(alloc, field(Some(value), "name")) {
         Ok(_) => Ok(None),
-        Err(TableFault::OutOfMemory) => Err(OutOfMemory),
-        Err(fault) => Ok(Some(fault)),
+        Err(OrMemory::OutOfMemory) => Err(OutOfMemory),
+        Err(OrMemory::Fault(fault)) => Ok(Some(fault)),
     }
 }
 
@@ -105,8 +106,8 @@ fn row_fault(
 {
     match row_at(alloc, row, names, value) {
         Ok(_) => Ok(None),
-        Err(TableFault::OutOfMemory) => Err(OutOfMemory),
-        Err(fault) => Ok(Some(fault)),
+        Err(OrMemory::OutOfMemory) => Err(OutOfMemory),
+        Err(OrMemory::Fault(fault)) => Ok(Some(fault)),
     }
 }
 
@@ -149,8 +150,8 @@ fn unread_rows(alloc: Global, value: &Value) -> Result<Vec<TableFault>, OutOfMem
 {
     match counters_at(alloc, field(Some(value), "counters")) {
         Ok(names) => named_row_faults(alloc, names.as_slice(), value),
-        Err(TableFault::OutOfMemory) => Err(OutOfMemory),
-        Err(_) => Ok(Vec::new(alloc)),
+        Err(OrMemory::OutOfMemory) => Err(OutOfMemory),
+        Err(OrMemory::Fault(_)) => Ok(Vec::new(alloc)),
     }
 }
 
@@ -216,13 +217,15 @@ fn broken_rules(alloc: Global, value: &Value) -> Result<Vec<TableFault>, OutOfMe
 {
     match shape_of(alloc, value) {
         Ok(table) => rule_faults(alloc, &table),
-        Err(TableFault::OutOfMemory) => Err(OutOfMemory),
-        Err(_) => Ok(Vec::new(alloc)),
+        Err(OrMemory::OutOfMemory) => Err(OutOfMemory),
+        Err(OrMemory::Fault(_)) => Ok(Vec::new(alloc)),
     }
 }
 
-/// Returns the faults of a JSON value as a table.
-fn value_faults(alloc: Global, value: &Value) -> Result<Vec<TableFault>, OutOfMemory>
+/// Returns the faults of a JSON value as a table, in order. If its version is not known, that is
+/// the only one. Else they are the first fault of each member; if there are none, that of each row
+/// that can't be read; and if all can be read, the first rule that each row breaks.
+pub(crate) fn value_faults(alloc: Global, value: &Value) -> Result<Vec<TableFault>, OutOfMemory>
     ensures { IfOk result (λ faults. faults.items ≡ value_faults (view value.now)) }
 {
     let faults = shape_faults(alloc, value)?;
@@ -230,21 +233,5 @@ fn value_faults(alloc: Global, value: &Value) -> Result<Vec<TableFault>, OutOfMe
         broken_rules(alloc, value)
     } else {
         Ok(faults)
-    }
-}
-
-/// Returns the faults of a JSON text (RFC 8259) as a table, in order. If it is not JSON or its
-/// version is not known, that is the only one. Else they are the first fault of each member; if
-/// there are none, that of each row that can't be read; and if all can be read, the first rule that
-/// each row breaks. The first fault is the one at which `read_table` stops, and there is none
-/// exactly if `read_table` succeeds (law `first_stops_reading`). `OutOfMemory` if an allocation was
-/// refused.
-pub fn list_faults(alloc: Global, bytes: &[u8]) -> Result<Vec<TableFault>, OutOfMemory>
-    ensures { IfOk result (λ faults. faults.items ≡ faults_of bytes.now) }
-{
-    match document(alloc, bytes) {
-        Ok(value) => value_faults(alloc, &value),
-        Err(TableFault::OutOfMemory) => Err(OutOfMemory),
-        Err(fault) => only(alloc, fault),
     }
 }

@@ -2,14 +2,14 @@
 ghost use Rattle.std.specs.Prelude.{◌≡◌, map, option_map};
 ghost use Rattle.serde_json.specs.View.{view};
 ghost use Rattle.wh_table_text.specs.Words.{phrase};
-ghost use Rattle.wh_table_text.specs.Outcome.{Gives, all_of};
+ghost use Rattle.wh_or_memory.specs.Outcome.{Gives, all_of};
 ghost use Rattle.wh_table_text.specs.Phrases.{template_shown};
 ghost use Rattle.wh_table_text.specs.Reading.{text_at, one_phrase, texts_of, phrases_at};
 ghost use Rattle.wh_table_text.specs.Reading.{template_at, condition_at, effect_at, counter_in};
 
 use crate::copies::{template_copy, text_copy};
 use crate::counters::{NamedCounter, counter_of};
-use crate::fault::{RowFault, TableFault};
+use crate::fault::{ReadResult, RowFault, TableFault};
 use crate::phrases::{condition_of, effect_of, template_of};
 use crate::verbs::command_verb;
 use crate::words::PhraseWords;
@@ -17,6 +17,7 @@ use serde_json::Value;
 use std::alloc::Global;
 use wh_events::Text;
 use wh_json::list_in;
+use wh_or_memory::OrMemory;
 use wh_rows::{CommandTemplate, Condition, RowEffect};
 
 /// Returns the fault of the row of this number.
@@ -27,17 +28,17 @@ pub(crate) fn in_row(row: u64, fault: RowFault) -> TableFault
 }
 
 /// Returns the text of a value, or the fault if it is not a text.
-fn text_at(alloc: Global, fault: TableFault, value: &Value) -> Result<Text, TableFault>
+fn text_at(alloc: Global, fault: TableFault, value: &Value) -> ReadResult<Text>
     ensures { Gives (λ text. text) result (text_at fault (view value.now)) }
 {
     match value.as_str() {
         Some(text) => text_copy(alloc, text),
-        None => Err(fault),
+        None => Err(OrMemory::Fault(fault)),
     }
 }
 
 /// Returns the texts of a list of values.
-fn each_text(alloc: Global, fault: TableFault, values: &[Value]) -> Result<Vec<Text>, TableFault>
+fn each_text(alloc: Global, fault: TableFault, values: &[Value]) -> ReadResult<Vec<Text>>
     ensures { Gives (λ texts. texts.items) result (all_of (map (text_at fault) (map view values.now))) }
 {
     let mut texts = Vec::new(alloc);
@@ -49,7 +50,7 @@ fn each_text(alloc: Global, fault: TableFault, values: &[Value]) -> Result<Vec<T
 }
 
 /// Returns a text as the only phrase of a list, which is empty if the text is.
-fn one_phrase(alloc: Global, text: &str) -> Result<Vec<Text>, TableFault>
+fn one_phrase(alloc: Global, text: &str) -> ReadResult<Vec<Text>>
     ensures { Gives (λ texts. texts.items) result (Ok (one_phrase text.now)) }
 {
     if text.is_empty() {
@@ -62,12 +63,12 @@ fn one_phrase(alloc: Global, text: &str) -> Result<Vec<Text>, TableFault>
 }
 
 /// Returns the texts of a value that is a list.
-fn texts_of(alloc: Global, fault: TableFault, value: &Value) -> Result<Vec<Text>, TableFault>
+fn texts_of(alloc: Global, fault: TableFault, value: &Value) -> ReadResult<Vec<Text>>
     ensures { Gives (λ texts. texts.items) result (texts_of fault (view value.now)) }
 {
     match list_in(value) {
         Some(values) => each_text(alloc, fault, values),
-        None => Err(fault),
+        None => Err(OrMemory::Fault(fault)),
     }
 }
 
@@ -76,7 +77,7 @@ pub fn phrases_at(
     alloc: Global,
     fault: TableFault,
     value: Option<&Value>,
-) -> Result<Vec<Text>, TableFault>
+) -> Result<Vec<Text>, OrMemory<TableFault>>
     ensures { Gives (λ texts. texts.items) result (phrases_at fault (option_map (λ v. view v.now) value.entry)) }
 {
     let Some(value) = value else {
@@ -90,25 +91,21 @@ pub fn phrases_at(
 
 /// Returns the command that a text describes.
 #[tactic(auto, unfolding(crate::specs::Reading::template_at))]
-fn template_at(row: u64, text: &str) -> Result<CommandTemplate<&str>, TableFault>
+fn template_at(row: u64, text: &str) -> ReadResult<CommandTemplate<&str>>
     ensures { Gives template_shown result (template_at row text.now) }
 {
     let phrase = PhraseWords::of(text);
     let Some(verb) = command_verb(phrase.verb) else {
-        return Err(in_row(row, RowFault::UnknownCommand));
+        return Err(OrMemory::Fault(in_row(row, RowFault::UnknownCommand)));
     };
     match template_of(verb, &phrase) {
         Some(template) => Ok(template),
-        None => Err(in_row(row, RowFault::BadCommand)),
+        None => Err(OrMemory::Fault(in_row(row, RowFault::BadCommand))),
     }
 }
 
 /// Returns the command that a text describes, with owned texts.
-fn own_template_at(
-    alloc: Global,
-    row: u64,
-    text: &Text,
-) -> Result<CommandTemplate<Text>, TableFault>
+fn own_template_at(alloc: Global, row: u64, text: &Text) -> ReadResult<CommandTemplate<Text>>
     ensures { Gives (λ template. template) result (template_at row text.now) }
 {
     let template = template_at(row, text.get())?;
@@ -120,7 +117,7 @@ pub(crate) fn each_template(
     alloc: Global,
     row: u64,
     texts: &[Text],
-) -> Result<Vec<CommandTemplate<Text>>, TableFault>
+) -> ReadResult<Vec<CommandTemplate<Text>>>
     ensures { Gives (λ given. given.items) result (all_of (map (template_at row) texts.now)) }
 {
     let mut given = Vec::new(alloc);
@@ -133,12 +130,12 @@ pub(crate) fn each_template(
 
 /// Returns the condition that a text describes.
 #[tactic(auto, unfolding(crate::specs::Reading::condition_at))]
-fn condition_at(row: u64, names: &[NamedCounter], text: &Text) -> Result<Condition, TableFault>
+fn condition_at(row: u64, names: &[NamedCounter], text: &Text) -> ReadResult<Condition>
     ensures { Gives (λ condition. condition) result (condition_at names.now row text.now) }
 {
     match condition_of(names, &PhraseWords::of(text.get())) {
         Some(condition) => Ok(condition),
-        None => Err(in_row(row, RowFault::UnknownCondition)),
+        None => Err(OrMemory::Fault(in_row(row, RowFault::UnknownCondition))),
     }
 }
 
@@ -148,7 +145,7 @@ pub(crate) fn each_condition(
     row: u64,
     names: &[NamedCounter],
     texts: &[Text],
-) -> Result<Vec<Condition>, TableFault>
+) -> ReadResult<Vec<Condition>>
     ensures { Gives (λ given. given.items) result (all_of (map (condition_at names.now row) texts.now)) }
 {
     let mut given = Vec::new(alloc);
@@ -161,12 +158,12 @@ pub(crate) fn each_condition(
 
 /// Returns the mark (`up`, `zero` or `keep`) that a text describes.
 #[tactic(auto, unfolding(crate::specs::Reading::effect_at))]
-fn effect_at(row: u64, names: &[NamedCounter], text: &Text) -> Result<RowEffect, TableFault>
+fn effect_at(row: u64, names: &[NamedCounter], text: &Text) -> ReadResult<RowEffect>
     ensures { Gives (λ effect. effect) result (effect_at names.now row text.now) }
 {
     match effect_of(names, &PhraseWords::of(text.get())) {
         Some(effect) => Ok(effect),
-        None => Err(in_row(row, RowFault::UnknownMark)),
+        None => Err(OrMemory::Fault(in_row(row, RowFault::UnknownMark))),
     }
 }
 
@@ -176,7 +173,7 @@ pub(crate) fn each_effect(
     row: u64,
     names: &[NamedCounter],
     texts: &[Text],
-) -> Result<Vec<RowEffect>, TableFault>
+) -> ReadResult<Vec<RowEffect>>
     ensures { Gives (λ given. given.items) result (all_of (map (effect_at names.now row) texts.now)) }
 {
     let mut given = Vec::new(alloc);
@@ -188,14 +185,14 @@ pub(crate) fn each_effect(
 }
 
 /// Returns the counter that a text describes.
-fn counter_in(alloc: Global, text: &Text) -> Result<NamedCounter, TableFault>
+fn counter_in(alloc: Global, text: &Text) -> ReadResult<NamedCounter>
     ensures { Gives (λ counter. counter) result (counter_in text.now) }
 {
     counter_of(alloc, &PhraseWords::of(text.get()))
 }
 
 /// Returns the counters that these texts describe.
-pub(crate) fn each_counter(alloc: Global, texts: &[Text]) -> Result<Vec<NamedCounter>, TableFault>
+pub(crate) fn each_counter(alloc: Global, texts: &[Text]) -> ReadResult<Vec<NamedCounter>>
     ensures { Gives (λ given. given.items) result (all_of (map counter_in texts.now)) }
 {
     let mut given = Vec::new(alloc);

@@ -1,15 +1,15 @@
 //! Reads the rows of a table.
 ghost use Rattle.std.specs.Prelude.{◌≡◌, map, option_map};
 ghost use Rattle.serde_json.specs.View.{view};
-ghost use Rattle.wh_table_text.specs.Outcome.{Gives, all_of};
+ghost use Rattle.wh_or_memory.specs.Outcome.{Gives, all_of};
 ghost use Rattle.wh_table_text.specs.Phrases.{pattern_shown};
 ghost use Rattle.wh_table_text.specs.Reading.{cell, job_at, is_short_list, or_same, row_at, rows_from};
-ghost use Rattle.wh_table_text.specs.Reading.{templates_at, conditions_at, effects_at};
+ghost use Rattle.wh_table_text.specs.Reading.{few_phrases, templates_at, conditions_at, effects_at};
 ghost use Rattle.wh_table_text.specs.RowParts.{row_with};
 
 use crate::copies::{pattern_copy, text_pair};
 use crate::counters::NamedCounter;
-use crate::fault::{RowFault, TableFault};
+use crate::fault::{ReadResult, RowFault, TableFault};
 use crate::lists::{each_condition, each_effect, each_template, in_row, phrases_at};
 use crate::phrases::pattern_of;
 use crate::verbs::job_verb;
@@ -18,6 +18,7 @@ use serde_json::Value;
 use std::alloc::Global;
 use wh_events::{Items, Text};
 use wh_json::list_in;
+use wh_or_memory::OrMemory;
 use wh_row_rules::OwnedRow;
 use wh_rows::{CommandTemplate, Condition, JobPattern, RowEffect, RowOf};
 
@@ -26,7 +27,7 @@ const MOST_PHRASES: usize = 16;
 
 /// Returns the text of a member of a row, empty if it is omitted.
 #[tactic(auto, unfolding(crate::specs::Reading::cell))]
-fn cell(row: u64, index: usize, value: &Value) -> Result<&str, TableFault>
+fn cell(row: u64, index: usize, value: &Value) -> ReadResult<&str>
     ensures { Gives (λ text. text.now) result (cell row index (view value.now)) }
 {
     let Some(member) = value.get(index) else {
@@ -34,28 +35,32 @@ fn cell(row: u64, index: usize, value: &Value) -> Result<&str, TableFault>
     };
     match member.as_str() {
         Some(text) => Ok(text),
-        None => Err(in_row(row, RowFault::NotText)),
+        None => Err(OrMemory::Fault(in_row(row, RowFault::NotText))),
     }
 }
 
 /// Returns the jobs that a text describes.
 #[tactic(auto, unfolding(crate::specs::Reading::job_at))]
-fn job_at(row: u64, text: &str) -> Result<JobPattern<&str>, TableFault>
+fn job_at(row: u64, text: &str) -> ReadResult<JobPattern<&str>>
     ensures { Gives pattern_shown result (job_at row text.now) }
 {
     let phrase = PhraseWords::of(text);
     let Some(verb) = job_verb(phrase.verb) else {
-        return Err(in_row(row, RowFault::UnknownJob));
+        return Err(OrMemory::Fault(in_row(row, RowFault::UnknownJob)));
     };
     match pattern_of(verb, &phrase) {
         Some(pattern) => Ok(pattern),
-        None => Err(in_row(row, RowFault::UnknownJob)),
+        None => Err(OrMemory::Fault(in_row(row, RowFault::UnknownJob))),
     }
 }
 
 /// Returns the jobs that a text describes, for the row of this number. `UnknownJob` of that row if
 /// it describes none, or `OutOfMemory`.
-pub fn own_job_at(alloc: Global, row: u64, text: &str) -> Result<JobPattern<Text>, TableFault>
+pub fn own_job_at(
+    alloc: Global,
+    row: u64,
+    text: &str,
+) -> Result<JobPattern<Text>, OrMemory<TableFault>>
     ensures { Gives (λ pattern. pattern) result (job_at row text.now) }
 {
     let pattern = job_at(row, text)?;
@@ -68,11 +73,23 @@ fn templates_at(
     alloc: Global,
     row: u64,
     value: Option<&Value>,
-) -> Result<Vec<CommandTemplate<Text>>, TableFault>
+) -> ReadResult<Vec<CommandTemplate<Text>>>
     ensures { Gives (λ given. given.items) result (templates_at row (option_map (λ v. view v.now) value.entry)) }
 {
     let texts = phrases_at(alloc, in_row(row, RowFault::NotText), value)?;
     each_template(alloc, row, texts.as_slice())
+}
+
+/// Returns the phrases of the conditions, or of the marks, of a row.
+#[tactic(auto, unfolding(crate::specs::Reading::few_phrases))]
+fn few_phrases(alloc: Global, row: u64, value: Option<&Value>) -> ReadResult<Vec<Text>>
+    ensures { Gives (λ texts. texts.items) result (few_phrases row (option_map (λ v. view v.now) value.entry)) }
+{
+    let texts = phrases_at(alloc, in_row(row, RowFault::NotText), value)?;
+    if MOST_PHRASES < texts.len() {
+        return Err(OrMemory::Fault(in_row(row, RowFault::TooManyPhrases)));
+    }
+    Ok(texts)
 }
 
 /// Returns the conditions of a row.
@@ -82,14 +99,11 @@ fn conditions_at(
     row: u64,
     names: &[NamedCounter],
     value: Option<&Value>,
-) -> Result<Vec<Condition>, TableFault>
+) -> ReadResult<Vec<Condition>>
     ensures { Gives (λ given. given.items) result
         (conditions_at names.now row (option_map (λ v. view v.now) value.entry)) }
 {
-    let texts = phrases_at(alloc, in_row(row, RowFault::NotText), value)?;
-    if MOST_PHRASES < texts.len() {
-        return Err(in_row(row, RowFault::TooManyPhrases));
-    }
+    let texts = few_phrases(alloc, row, value)?;
     each_condition(alloc, row, names, texts.as_slice())
 }
 
@@ -100,14 +114,11 @@ fn effects_at(
     row: u64,
     names: &[NamedCounter],
     value: Option<&Value>,
-) -> Result<Vec<RowEffect>, TableFault>
+) -> ReadResult<Vec<RowEffect>>
     ensures { Gives (λ given. given.items) result
         (effects_at names.now row (option_map (λ v. view v.now) value.entry)) }
 {
-    let texts = phrases_at(alloc, in_row(row, RowFault::NotText), value)?;
-    if MOST_PHRASES < texts.len() {
-        return Err(in_row(row, RowFault::TooManyPhrases));
-    }
+    let texts = few_phrases(alloc, row, value)?;
     each_effect(alloc, row, names, texts.as_slice())
 }
 
@@ -136,7 +147,7 @@ fn row_with(
     value: &Value,
     state: &str,
     job: JobPattern<Text>,
-) -> Result<OwnedRow, TableFault>
+) -> ReadResult<OwnedRow>
     ensures { Gives (λ row. row) result (row_with names.now row (view value.now) state.now job) }
 {
     let conditions = conditions_at(alloc, row, names, value.get(2usize))?;
@@ -161,11 +172,11 @@ pub(crate) fn row_at(
     row: u64,
     names: &[NamedCounter],
     value: &Value,
-) -> Result<OwnedRow, TableFault>
+) -> ReadResult<OwnedRow>
     ensures { Gives (λ row. row) result (row_at names.now row (view value.now)) }
 {
     if !is_short_list(value) {
-        return Err(in_row(row, RowFault::NotARow));
+        return Err(OrMemory::Fault(in_row(row, RowFault::NotARow)));
     }
     let state = cell(row, 0, value)?;
     let job = own_job_at(alloc, row, cell(row, 1, value)?)?;
@@ -177,7 +188,7 @@ pub(crate) fn each_row(
     alloc: Global,
     names: &[NamedCounter],
     values: &[Value],
-) -> Result<Vec<OwnedRow>, TableFault>
+) -> ReadResult<Vec<OwnedRow>>
     ensures { Gives (λ rows. rows.items) result (all_of (rows_from names.now 1 (map view values.now))) }
 {
     let mut rows = Vec::new(alloc);

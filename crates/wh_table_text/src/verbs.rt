@@ -1,6 +1,6 @@
 //! The first words of phrases.
 ghost use Rattle.std.specs.Prelude.{◌≡◌};
-ghost use Rattle.wh_table_text.specs.VerbGroups.{child_verb, closing_verb, run_verb};
+ghost use Rattle.wh_table_text.specs.Verbs.{meaning, child_verbs, closing_verbs, run_verbs};
 ghost use Rattle.wh_table_text.specs.Verbs.{job_verb, command_verb, source_of};
 
 use wh_rows::Source;
@@ -41,7 +41,7 @@ pub(crate) enum CommandVerb {
 
 /// Returns what the first word of a job means that is about a child workflow or a version.
 fn child_verb(word: &str) -> Option<JobVerb>
-    ensures { result ≡ child_verb word.now }
+    ensures { result ≡ meaning child_verbs word.now }
 {
     if word == "child-started" {
         Some(JobVerb::ChildStarted)
@@ -82,7 +82,7 @@ pub(crate) fn job_verb(word: &str) -> Option<JobVerb>
 
 /// Returns what the first word of a command means that closes the run.
 fn closing_verb(word: &str) -> Option<CommandVerb>
-    ensures { result ≡ closing_verb word.now }
+    ensures { result ≡ meaning closing_verbs word.now }
 {
     if word == "complete" {
         Some(CommandVerb::Complete)
@@ -102,7 +102,7 @@ fn closing_verb(word: &str) -> Option<CommandVerb>
 /// Returns what the first word of a command means that is about another run, asks for a version or
 /// closes the run.
 fn run_verb(word: &str) -> Option<CommandVerb>
-    ensures { result ≡ run_verb word.now }
+    ensures { result ≡ meaning run_verbs word.now }
 {
     if word == "child" {
         Some(CommandVerb::Child)

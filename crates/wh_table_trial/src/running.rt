@@ -8,6 +8,7 @@ use crate::entries::{Entry, scenario_entries};
 use std::alloc::Global;
 use wh_author_tools::commands_text;
 use wh_events::{Items, OutOfMemory, Payload, Text};
+use wh_or_memory::OrMemory;
 use wh_table::{TableState, TableWorkflow};
 use wh_table_text::{TableFault, fault_text, read_table};
 use wh_workflow::{Command, Job, Meter, Workflow};
@@ -343,7 +344,7 @@ pub fn try_table(alloc: Global, table: &[u8], scenario: &str) -> Result<Trial, O
 {
     match read_table(alloc, table) {
         Ok(_) => run_scenario(alloc, table, scenario),
-        Err(TableFault::OutOfMemory) => Err(OutOfMemory),
-        Err(fault) => no_table(alloc, fault),
+        Err(OrMemory::OutOfMemory) => Err(OutOfMemory),
+        Err(OrMemory::Fault(fault)) => no_table(alloc, fault),
     }
 }

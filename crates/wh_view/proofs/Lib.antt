@@ -4,3 +4,7 @@ mod Whole
 mod Gathered
 mod Indices
 mod Listed
+mod Causes
+mod Closing
+mod Opened
+mod Membered

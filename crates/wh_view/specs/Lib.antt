@@ -1,5 +1,14 @@
 pub mod Each
+pub mod Attributes
 pub mod Details
+pub mod Failures
+pub mod Updates
+pub mod Values
+pub mod EventDetails
+pub mod Runs
+pub mod Waiting
+pub mod Durations
+pub mod Times
 pub mod Parts
 pub mod Things
 pub mod Unsupported

@@ -7,7 +7,9 @@ use Rattle.wh_view.specs.declared.parts.Part.TheVariants as parts
 use Rattle.wh_view.specs.declared.view.View.{View}
 use Rattle.wh_view.specs.declared.view.ViewedEvent.{ViewedEvent}
 use Rattle.wh_view.specs.declared.view.ViewedThing.{ViewedThing}
-use Rattle.wh_view.specs.Parts.{part_of}
+use Rattle.wh_view.specs.declared.view.UpdateStep.{UpdateStep}
+use Rattle.wh_view.specs.Parts.{part_of, step_of}
+use Rattle.wh_view.specs.Updates.{name_of_step}
 
 -- the id under which an event of the kind opens something, or the name of a signal or a marker
 abbrev pub id_in : EventKind → List ℕ
@@ -28,22 +30,31 @@ type_in (kinds.ActivityTaskScheduled _ activity) = activity
 type_in (kinds.SignalExternalWorkflowExecutionInitiated _ signal) = signal
 type_in _ = []
 
--- the id and the type of an event, empty if its kind is not known
-abbrev pub id_of_kind : Option EventKind → List ℕ
-id_of_kind None = []
-id_of_kind (Some kind) = id_in kind
+-- the id and the type of an event; the other text if its kind is not known
+abbrev pub id_of_kind : Option EventKind → (other : List ℕ) → List ℕ
+id_of_kind None other = other
+id_of_kind (Some kind) other = id_in kind
 
-abbrev pub type_of_kind : Option EventKind → List ℕ
-type_of_kind None = []
-type_of_kind (Some kind) = type_in kind
+abbrev pub type_of_kind : Option EventKind → (other : List ℕ) → List ℕ
+type_of_kind None other = other
+type_of_kind (Some kind) other = type_in kind
 
--- the id under which an event opens a thing, or the name of a signal or a marker; empty if it has none
+-- the id under which an event opens a thing, the name of a signal or a marker, or the id of an update; empty if it has
+-- none
 abbrev pub event_id : ViewedEvent → List ℕ
-event_id event = id_of_kind event.read.kind
+event_id event = id_of_kind event.read.kind event.details.update.id
 
--- the type that an event names, or the name of the signal that it sends; empty if it has none
+-- the type that an event names, or the name of the signal that it sends, or of an update; empty if it has none
 abbrev pub event_type : ViewedEvent → List ℕ
-event_type event = type_of_kind event.read.kind
+event_type event = type_of_kind event.read.kind event.details.update.name
+
+-- the plain name of an event's type, by the step of an update that it tells of
+abbrev pub name_by : Option UpdateStep → (other : List ℕ) → List ℕ
+name_by None other = other
+name_by (Some step) other = name_of_step step
+
+abbrev pub event_name : ViewedEvent → List ℕ
+event_name event = name_by (step_of event) event.read.name
 
 -- the index of an event among the events
 abbrev pub index_of : ViewedEvent → ℕ

@@ -7,10 +7,14 @@ use Rattle.wh_json.specs.declared.partial.PartialEvent.{PartialEvent}
 use Rattle.wh_json.specs.Events.{document_within, event_number, events_in}
 use Rattle.wh_json.specs.Fields.{field, text_of}
 use Rattle.wh_json.specs.Outcome.{◌>>=◌, or_fault}
-use Rattle.wh_json.specs.Partial.{partial_event, attributes_in}
+use Rattle.wh_json.specs.Partial.{partial_event}
 use Rattle.wh_view.specs.declared.view.View.{View}
 use Rattle.wh_view.specs.declared.view.ViewedEvent.{ViewedEvent}
-use Rattle.wh_view.specs.Details.{attempt_of, failure_of, duration_of, values_of, AreValuesOf, IsJsonOf}
+use Rattle.wh_view.specs.Attributes.{attributes_of}
+use Rattle.wh_view.specs.EventDetails.{details_of}
+use Rattle.wh_view.specs.Runs.{run_of}
+use Rattle.wh_view.specs.Details.{attempt_of, failure_of, duration_of, AreValuesOf, IsJsonOf}
+use Rattle.wh_view.specs.Values.{values_of}
 use Rattle.wh_view.specs.Each.{Each}
 use Rattle.wh_view.specs.Parts.{completes_task, is_commanded}
 use Rattle.wh_view.specs.Things.{gathered}
@@ -29,18 +33,19 @@ reads_of events = map (λ event. event.read) events
 pub record IsEventOf (at : ℕ) (d : Data) (event : ViewedEvent) : Type 0 where
   pub place : event.place ≡ at
   pub moment : event.moment ≡ text_of (field (codes "eventTime") (Some d))
-  pub attempt : event.attempt ≡ attempt_of (attributes_in d)
-  pub failure : event.failure ≡ failure_of (attributes_in d)
-  pub duration : event.duration ≡ duration_of (attributes_in d)
-  pub payloads : AreValuesOf (values_of (attributes_in d)) event.payloads
+  pub attempt : event.attempt ≡ attempt_of (attributes_of d)
+  pub failure : event.failure ≡ failure_of (attributes_of d)
+  pub duration : event.duration ≡ duration_of (attributes_of d)
+  pub payloads : AreValuesOf (values_of (attributes_of d)) event.payloads
+  pub details : event.details ≡ details_of (attributes_of d)
   pub json : IsJsonOf d event.json
 
 -- the events of the members, one by one
 abbrev pub AreEventsOf : List Data → List ViewedEvent → Type 0
 AreEventsOf members events = Each IsEventOf 1 members events
 
--- the number of the task to which an event belongs, if so many were completed before it: an event that records a
--- command belongs to the last of these, and any other to the next one
+-- the number of the task to which an event belongs, if so many were completed before it: an event that records what
+-- the workflow did in a task belongs to the last of these, and any other to the next one
 abbrev pub task_of : ℕ → ViewedEvent → ℕ
 task_of completed event = if is_commanded event then completed else completed + 1
 
@@ -55,6 +60,7 @@ tasks_from completed (event ∷ events) = task_of completed event ∷ tasks_from
 
 -- the view of the members of a history's list
 pub record IsViewOf (members : List Data) (view : View) : Type 0 where
+  pub run : view.run ≡ run_of members
   pub events : AreEventsOf members view.events
   pub reads : reads_of view.events ≡ reads_from 1 None members
   pub things : view.things ≡ (gathered view.events).things

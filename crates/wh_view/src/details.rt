@@ -2,17 +2,26 @@
 
 ghost use Rattle.std.specs.Prelude.{◌≡◌, [], ◌∷◌, Some, codes, option_map, option_and_then, IfOk, map};
 ghost use Rattle.serde_json.specs.View.{view};
-ghost use Rattle.wh_view.specs.Details.{IsJsonOf, IsValueOf, ArePayloadsOr, AreValuesOf, AreValuesIn};
+ghost use Rattle.serde_json.specs.Find.{as_object};
+ghost use Rattle.wh_view.specs.Details.{IsJsonOf, IsValueOf, AreMembersOr, ArePayloadsOr, AreValuesOf, AreValuesIn};
 ghost use Rattle.wh_json.specs.Fields.{field, list_in};
-ghost use Rattle.wh_view.specs.Details.{attempt_of, first_text, message_of, failure_of, duration_of, values_of};
-ghost use Rattle.wh_view.specs.Details.{if_text, decoded, decoded_text};
+ghost use Rattle.wh_view.specs.Details.{attempt_of, first_text, message_of, failure_of, duration_of};
+ghost use Rattle.wh_view.specs.Values.{changes_of, outcome_or_changes, update_values, values_of};
+ghost use Rattle.wh_view.specs.Details.{if_text, decoded, decoded_text, payload_list};
+ghost use Rattle.wh_view.specs.EventDetails.{task_event, details_of};
 ghost use Rattle.wh_view.specs.Each.{Each};
 
+use crate::attributes::inner;
+use crate::failures::{ending_of, failures_of};
+use crate::members::member_texts;
+use crate::payloads::payload_text;
+use crate::updates::{arguments_in, update_of};
+use crate::view::EventDetails;
 use base64::DecodeAllocError;
 use base64::engine::general_purpose::STANDARD;
 use serde_json::Value;
 use std::alloc::Global;
-use wh_events::{OutOfMemory, Text};
+use wh_events::{Items, OutOfMemory, Text};
 use wh_json::{field, list_in, number_of, text_of};
 
 /// Returns the attempt in an event's attributes, 0 if they have none.
@@ -27,7 +36,7 @@ pub(crate) fn attempt_of(attributes: Option<&Value>) -> u64
 
 /// Returns the text, or the other one if it is empty.
 #[tactic(auto, unfolding(crate::specs::Details::first_text))]
-fn first_text<'v>(text: &'v str, other: &'v str) -> &'v str
+pub(crate) fn first_text<'v>(text: &'v str, other: &'v str) -> &'v str
     ensures { result.now ≡ first_text text.now other.now }
 {
     if text.is_empty() { other } else { text }
@@ -58,6 +67,38 @@ pub(crate) fn duration_of<'v>(attributes: Option<&'v Value>) -> &'v str
     text_of(field(attributes, "startToFireTimeout"))
 }
 
+/// Returns the member that holds the search attributes or the memo that an event changes.
+fn changes_of<'v>(attributes: Option<&'v Value>) -> Option<&'v Value>
+    ensures { option_map (λ v. view v.now) result ≡ changes_of (option_map (λ v. view v.now) attributes.entry) }
+{
+    match inner(attributes, "searchAttributes", "indexedFields") {
+        Some(value) => Some(value),
+        None => inner(attributes, "upsertedMemo", "fields"),
+    }
+}
+
+/// Returns the member that holds the result of an update, or else what an event changes.
+fn outcome_or_changes<'v>(attributes: Option<&'v Value>) -> Option<&'v Value>
+    ensures { option_map (λ v. view v.now) result
+        ≡ outcome_or_changes (option_map (λ v. view v.now) attributes.entry) }
+{
+    match inner(attributes, "outcome", "success") {
+        Some(value) => Some(value),
+        None => changes_of(attributes),
+    }
+}
+
+/// Returns the member that holds the arguments or the result of an update, or else what an event
+/// changes.
+fn update_values<'v>(attributes: Option<&'v Value>) -> Option<&'v Value>
+    ensures { option_map (λ v. view v.now) result ≡ update_values (option_map (λ v. view v.now) attributes.entry) }
+{
+    match arguments_in(attributes) {
+        Some(value) => Some(value),
+        None => outcome_or_changes(attributes),
+    }
+}
+
 /// Returns the member that holds the values of an event.
 pub(crate) fn values_of<'v>(attributes: Option<&'v Value>) -> Option<&'v Value>
     ensures { option_map (λ v. view v.now) result ≡ values_of (option_map (λ v. view v.now) attributes.entry) }
@@ -66,7 +107,10 @@ pub(crate) fn values_of<'v>(attributes: Option<&'v Value>) -> Option<&'v Value>
         Some(value) => Some(value),
         None => match field(attributes, "result") {
             Some(value) => Some(value),
-            None => field(attributes, "details"),
+            None => match field(attributes, "details") {
+                Some(value) => Some(value),
+                None => update_values(attributes),
+            },
         },
     }
 }
@@ -89,7 +133,7 @@ fn text_in(bytes: Vec<u8>) -> Option<Text>
 }
 
 /// Decodes base64, and returns the text that it holds, if it holds one.
-fn base64_text(alloc: Global, content: &str) -> Result<Option<Text>, OutOfMemory>
+pub(crate) fn base64_text(alloc: Global, content: &str) -> Result<Option<Text>, OutOfMemory>
     ensures { IfOk result (λ text. text ≡ decoded content.now) }
 {
     match STANDARD.decode(alloc, content.as_bytes()) {
@@ -100,7 +144,7 @@ fn base64_text(alloc: Global, content: &str) -> Result<Option<Text>, OutOfMemory
 }
 
 /// Returns the content of a payload, if it is a text.
-fn decoded_text(alloc: Global, payload: &Value) -> Result<Option<Text>, OutOfMemory>
+pub(crate) fn decoded_text(alloc: Global, payload: &Value) -> Result<Option<Text>, OutOfMemory>
     ensures { IfOk result (λ text. text ≡ decoded_text (view payload.now)) }
 {
     let Some(content) = field(Some(payload), "data") else {
@@ -112,12 +156,12 @@ fn decoded_text(alloc: Global, payload: &Value) -> Result<Option<Text>, OutOfMem
     }
 }
 
-/// Returns a value as text: the content of a payload if it is a text, or else the value as JSON.
-fn value_text(alloc: Global, shorthand: bool, value: &Value) -> Result<Text, OutOfMemory>
+/// Returns a value as text: a payload as `payload_text` has it, or else the value as JSON.
+pub(crate) fn value_text(alloc: Global, shorthand: bool, value: &Value) -> Result<Text, OutOfMemory>
     ensures { IfOk result (λ text. IsValueOf shorthand (view value.now) text) }
 {
     if !shorthand {
-        if let Some(text) = decoded_text(alloc, value)? {
+        if let Some(text) = payload_text(alloc, value)? {
             return Ok(text);
         }
     }
@@ -125,7 +169,11 @@ fn value_text(alloc: Global, shorthand: bool, value: &Value) -> Result<Text, Out
 }
 
 /// Returns each of the values as text.
-fn value_texts(alloc: Global, shorthand: bool, values: &[Value]) -> Result<Vec<Text>, OutOfMemory>
+pub(crate) fn value_texts(
+    alloc: Global,
+    shorthand: bool,
+    values: &[Value],
+) -> Result<Vec<Text>, OutOfMemory>
     ensures { IfOk result (λ texts. Each (λ _. IsValueOf shorthand) 0 (map view values.now) texts.items) }
 {
     let mut texts = Vec::new(alloc);
@@ -147,26 +195,35 @@ fn lone_text(alloc: Global, value: &Value) -> Result<Vec<Text>, OutOfMemory>
 }
 
 /// Returns the items of the list `payloads` of a value.
-fn payload_list<'v>(value: &'v Value) -> Option<&'v [Value]>
-    ensures { option_map (λ values. map view values.now) result
-        ≡ option_and_then list_in (field (codes "payloads") (Some (view value.now))) }
+pub(crate) fn payload_list<'v>(value: &'v Value) -> Option<&'v [Value]>
+    ensures { option_map (λ values. map view values.now) result ≡ payload_list (view value.now) }
 {
     list_in(field(Some(value), "payloads")?)
 }
 
-/// Returns the payloads that a value holds, as texts; if it has no list of them, the value itself.
-fn payloads_in(alloc: Global, value: &Value) -> Result<Vec<Text>, OutOfMemory>
-    ensures { IfOk result (λ texts. ArePayloadsOr
-        (option_and_then list_in (field (codes "payloads") (Some (view value.now)))) (view value.now) texts.items) }
+/// Returns the members of an object as texts; a value that is none is returned itself.
+fn members_in(alloc: Global, value: &Value) -> Result<Vec<Text>, OutOfMemory>
+    ensures { IfOk result (λ texts. AreMembersOr (as_object (view value.now)) (view value.now) texts.items) }
 {
-    match payload_list(value) {
-        Some(values) => value_texts(alloc, false, values),
+    match value.as_object() {
+        Some(members) => member_texts(alloc, members),
         None => lone_text(alloc, value),
     }
 }
 
+/// Returns the payloads that a value holds, as texts; if it has no list of them, its members.
+fn payloads_in(alloc: Global, value: &Value) -> Result<Vec<Text>, OutOfMemory>
+    ensures { IfOk result (λ texts. ArePayloadsOr (payload_list (view value.now)) (view value.now) texts.items) }
+{
+    match payload_list(value) {
+        Some(values) => value_texts(alloc, false, values),
+        None => members_in(alloc, value),
+    }
+}
+
 /// Returns the values that a value holds, as texts: the items of a list, or of the list `payloads`
-/// of an object; a value of another form is returned itself.
+/// of an object, or the members of an object that has none; a value of another form is returned
+/// itself.
 fn values_in(alloc: Global, value: &Value) -> Result<Vec<Text>, OutOfMemory>
     ensures { IfOk result (λ texts. AreValuesIn (view value.now) texts.items) }
 {
@@ -188,4 +245,33 @@ pub(crate) fn payload_texts(
         Some(value) => values_in(alloc, value),
         None => Ok(Vec::new(alloc)),
     }
+}
+
+/// Returns the number of the event that completed the task in which the workflow gave an event; 0
+/// if its attributes name none.
+fn task_event(attributes: Option<&Value>) -> u64
+    ensures { result ≡ task_event (option_map (λ v. view v.now) attributes.entry) }
+{
+    match field(attributes, "workflowTaskCompletedEventId") {
+        Some(value) => number_of(value).unwrap_or(0),
+        None => 0,
+    }
+}
+
+/// Returns what else the attributes of an event say.
+pub(crate) fn details_of(
+    alloc: Global,
+    attributes: Option<&Value>,
+) -> Result<EventDetails, OutOfMemory>
+    ensures { IfOk result (λ details. details ≡ details_of (option_map (λ v. view v.now) attributes.entry)) }
+{
+    let update = update_of(alloc, attributes)?;
+    let failures = Items::new(failures_of(alloc, attributes)?);
+    let ending = ending_of(alloc, attributes)?;
+    Ok(EventDetails {
+        task_event: task_event(attributes),
+        update,
+        failures,
+        ending,
+    })
 }

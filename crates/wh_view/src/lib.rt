@@ -2,15 +2,30 @@
 //! it can be read, the things that events opened, started and ended, and the workflow tasks.
 #![tactic(auto)]
 
+mod attributes;
 mod details;
+mod durations;
+mod failures;
 mod gathering;
 pub mod laws;
 mod lookups;
+mod members;
 mod parts;
+mod payloads;
 mod reading;
+mod runs;
+mod times;
 mod unsupported;
+mod updates;
 mod view;
+mod waiting;
 
+pub use durations::duration_in;
+pub use failures::MOST_FAILURES;
 pub use parts::{EventUse, Part};
 pub use reading::{view_members, view_of};
-pub use view::{ThingKind, UnsupportedKind, View, ViewedEvent, ViewedThing};
+pub use times::LAST_MOMENT;
+pub use view::{
+    Ending, EventDetails, OpenTask, RunNames, RunStatus, ThingKind, UnsupportedKind, UpdateName,
+    UpdateStep, View, ViewedEvent, ViewedFailure, ViewedThing,
+};

@@ -4,6 +4,7 @@ ghost use Rattle.std.specs.Prelude.{◌≡◌};
 ghost use Rattle.wh_view.specs.Lookups.{id_in, type_in};
 
 use crate::parts::{Part, part_of};
+use crate::updates::name_of_step;
 use crate::view::{View, ViewedEvent, ViewedThing};
 use wh_events::EventKind;
 
@@ -39,27 +40,38 @@ fn type_in(kind: &EventKind) -> &str
 
 impl ViewedEvent {
     ghost use Rattle.std.specs.Prelude.{◌≡◌};
-    ghost use Rattle.wh_view.specs.Lookups.{event_id, event_type, index_of};
+    ghost use Rattle.wh_view.specs.Lookups.{event_id, event_type, event_name, index_of};
 
-    /// Returns the id under which the event opens a thing, or the name of a signal or a marker;
-    /// empty if it has none.
+    /// Returns the id under which the event opens a thing, the name of a signal or a marker, or the
+    /// id of an update; empty if it has none.
     pub fn id(&self) -> &str
         ensures { result.now ≡ event_id self.now }
     {
         match &self.read.kind {
             Some(kind) => id_in(kind),
-            None => "",
+            None => self.details.update.id.get(),
         }
     }
 
     /// Returns the workflow type or the activity type that the event names, or the name of the
-    /// signal that it sends; empty if it has none.
+    /// signal that it sends, or of an update; empty if it has none.
     pub fn type_name(&self) -> &str
         ensures { result.now ≡ event_type self.now }
     {
         match &self.read.kind {
             Some(kind) => type_in(kind),
-            None => "",
+            None => self.details.update.name.get(),
+        }
+    }
+
+    /// Returns the plain name of the event's type, such as `TimerStarted`. If the reader of
+    /// histories does not read the type, and it is none of an update, the name that the event gives.
+    pub fn name(&self) -> &str
+        ensures { result.now ≡ event_name self.now }
+    {
+        match self.update_step() {
+            Some(step) => name_of_step(step),
+            None => self.read.name.get(),
         }
     }
 

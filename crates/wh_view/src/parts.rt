@@ -1,9 +1,11 @@
 //! How an event changes the things of its history.
 
 ghost use Rattle.std.specs.Prelude.{◌≡◌};
-ghost use Rattle.wh_view.specs.Parts.{kind_of_thing, plain_part, part_of, class_word, word_of_kind, rank, same_kind};
+ghost use Rattle.wh_view.specs.Parts.{kind_of_thing, plain_part, part_of, rank, same_kind};
+ghost use Rattle.wh_view.specs.Parts.{is_answer, commanded_class, word_if, class_word, word_of_kind};
 
-use crate::view::{ThingKind, ViewedEvent};
+use crate::updates::step_named;
+use crate::view::{ThingKind, UpdateStep, ViewedEvent};
 use wh_events::{Class, Effect, EventKind, Role, Thing};
 
 /// How an event changes the things of its history.
@@ -37,11 +39,11 @@ pub enum Part {
 pub enum EventUse {
     /// It becomes an activation job of the next task (`told` in reports).
     Told,
-    /// It records a command with which the workflow completed its task (`gives` in reports).
+    /// It records what the workflow did in its task (`gives` in reports).
     Gives,
     /// It completes a workflow task.
     Completes,
-    /// None of these, or its type is not supported.
+    /// None of these.
     Other,
 }
 
@@ -100,19 +102,60 @@ pub(crate) fn part_of(event: &ViewedEvent) -> Part
     }
 }
 
+/// Returns whether a worker takes the step.
+fn is_answer(step: Option<UpdateStep>) -> bool
+    ensures { result ≡ is_answer step }
+{
+    matches!(
+        step,
+        Some(UpdateStep::Accepted | UpdateStep::Rejected | UpdateStep::Completed)
+    )
+}
+
+/// Returns whether an event of the class records what the workflow did in a task, if `named` says
+/// whether an event that is of no other class does.
+fn is_commanded_class(class: Class, named: bool) -> bool
+    ensures { result ≡ commanded_class class named }
+{
+    match class {
+        Class::Commanded => true,
+        Class::Inert => named,
+        Class::Start | Class::Task | Class::Outside | Class::Close => false,
+    }
+}
+
 impl ViewedEvent {
     ghost use Rattle.std.specs.Prelude.{◌≡◌};
-    ghost use Rattle.wh_view.specs.Parts.{is_commanded, completes_task};
+    ghost use Rattle.wh_view.specs.Parts.{step_of, is_given, is_commanded, completes_task};
 
-    /// Returns whether the event records a command, as far as is known: `false` if its type is not
-    /// supported.
+    /// Returns the step of an update that the event tells of; `None` if it is no event of an
+    /// update.
+    pub fn update_step(&self) -> Option<UpdateStep>
+        ensures { result ≡ step_of self.now }
+    {
+        step_named(self.read.name.get())
+    }
+
+    /// Returns whether the event says itself that the workflow gave it: it names the task in which
+    /// it did, or is a step of an update that a worker takes.
+    #[tactic(auto, unfolding(crate::specs::Parts::is_given))]
+    fn is_given(&self) -> bool
+        ensures { result ≡ is_given self.now }
+    {
+        self.details.task_event != 0 || is_answer(self.update_step())
+    }
+
+    /// Returns whether the event records what the workflow did in a task: a command, a marker,
+    /// search attributes or a memo that it changed, an update that it accepted, rejected or
+    /// completed, or what else names the task in which the workflow gave it, unless it is an
+    /// outcome of that, such as a child that could not be started.
     #[tactic(auto, unfolding(crate::specs::Parts::is_commanded))]
     pub fn is_commanded(&self) -> bool
         ensures { result ≡ is_commanded self.now }
     {
         match &self.read.kind {
-            Some(kind) => matches!(kind.class(), Class::Commanded),
-            None => false,
+            Some(kind) => is_commanded_class(kind.class(), self.is_given()),
+            None => self.is_given(),
         }
     }
 
@@ -125,25 +168,40 @@ impl ViewedEvent {
     }
 }
 
-/// Returns how an event of the class concerns the workflow, the completion of a task aside.
-fn class_word(class: Class) -> EventUse
-    ensures { result ≡ class_word class }
+/// Returns how an event concerns the workflow if only its attributes and its name tell that.
+fn word_if(given: bool, step: Option<UpdateStep>) -> EventUse
+    ensures { result ≡ word_if given step }
+{
+    if given {
+        return EventUse::Gives;
+    }
+    match step {
+        Some(UpdateStep::Admitted) => EventUse::Told,
+        _ => EventUse::Other,
+    }
+}
+
+/// Returns how an event of the class concerns the workflow, the completion of a task aside; `rest`
+/// if its class does not say.
+fn class_word(class: Class, rest: EventUse) -> EventUse
+    ensures { result ≡ class_word class rest }
 {
     match class {
         Class::Start | Class::Outside => EventUse::Told,
         Class::Commanded => EventUse::Gives,
-        Class::Task | Class::Inert | Class::Close => EventUse::Other,
+        Class::Inert => rest,
+        Class::Task | Class::Close => EventUse::Other,
     }
 }
 
-/// Returns how an event of the kind concerns the workflow.
-fn word_of_kind(kind: &EventKind) -> EventUse
-    ensures { result ≡ word_of_kind kind.now }
+/// Returns how an event of the kind concerns the workflow; `rest` if its kind does not say.
+fn word_of_kind(kind: &EventKind, rest: EventUse) -> EventUse
+    ensures { result ≡ word_of_kind kind.now rest }
 {
     match kind {
         EventKind::WorkflowTaskCompleted => EventUse::Completes,
         EventKind::ActivityTaskStarted { .. } => EventUse::Other,
-        _ => class_word(kind.class()),
+        _ => class_word(kind.class(), rest),
     }
 }
 
@@ -152,16 +210,17 @@ impl ViewedEvent {
     ghost use Rattle.wh_view.specs.Parts.{word_of};
 
     /// Returns how the event concerns its workflow. `Told` are the events that become an activation
-    /// job of the next task, such as the start of the run, a signal, and what happened to an
-    /// activity, a timer, a child workflow or a request, but not the start of an activity by a
-    /// worker.
+    /// job of the next task, such as the start of the run, a signal, an update that was admitted,
+    /// and what happened to an activity, a timer, a child workflow or a request, but not the start
+    /// of an activity by a worker.
     #[tactic(auto, unfolding(crate::specs::Parts::word_of))]
     pub fn word(&self) -> EventUse
         ensures { result ≡ word_of self.now }
     {
+        let rest = word_if(self.is_given(), self.update_step());
         match &self.read.kind {
-            Some(kind) => word_of_kind(kind),
-            None => EventUse::Other,
+            Some(kind) => word_of_kind(kind, rest),
+            None => rest,
         }
     }
 }

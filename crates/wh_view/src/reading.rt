@@ -5,21 +5,16 @@ ghost use Rattle.serde_json.specs.View.{view};
 ghost use Rattle.wh_json.specs.Partial.{partial_event};
 ghost use Rattle.wh_view.specs.Views as views;
 
-use crate::details::{attempt_of, duration_of, failure_of, json_of, payload_texts};
+use crate::attributes::{attributes_of, copy_text};
+use crate::details::{attempt_of, details_of, duration_of, failure_of, json_of, payload_texts};
 use crate::gathering::gather_all;
+use crate::runs::run_of;
 use crate::unsupported::unsupported_kinds;
 use crate::view::{View, ViewedEvent};
 use serde_json::Value;
 use std::alloc::Global;
-use wh_events::{EventNo, Items, OutOfMemory, Text};
-use wh_json::{ReadFault, attributes_in, events_in, field, partial_event, read_document, text_of};
-
-/// Copies a text.
-fn copy_text(alloc: Global, text: &str) -> Result<Text, OutOfMemory>
-    ensures { IfOk result (λ copy. copy ≡ text.now) }
-{
-    Ok(Text::new(String::from_str(alloc, text)?))
-}
+use wh_events::{EventNo, Items, OutOfMemory};
+use wh_json::{ReadFault, events_in, field, partial_event, read_document, text_of};
 
 /// Views one member of a history's list. `place` is its place, counted from 1, and `before` the
 /// number of the member before.
@@ -32,11 +27,12 @@ fn event_of(
     ensures parts { IfOk result (views.IsEventOf place (view member.now)) }
     ensures read { IfOk result (λ event. event.read ≡ partial_event place before (view member.now)) }
 {
-    let attributes = attributes_in(member);
+    let attributes = attributes_of(member);
     let moment = copy_text(alloc, text_of(field(Some(member), "eventTime")))?;
     let failure = copy_text(alloc, failure_of(attributes))?;
     let duration = copy_text(alloc, duration_of(attributes))?;
     let payloads = Items::new(payload_texts(alloc, attributes)?);
+    let details = details_of(alloc, attributes)?;
     let json = json_of(alloc, member)?;
     let read = partial_event(alloc, place, before, member)?;
     Ok(ViewedEvent {
@@ -47,6 +43,7 @@ fn event_of(
         failure,
         duration,
         payloads,
+        details,
         json,
     })
 }
@@ -106,11 +103,13 @@ fn tasks(alloc: Global, events: &[ViewedEvent]) -> Result<Vec<usize>, OutOfMemor
 pub fn view_members(alloc: Global, members: &[Value]) -> Result<View, OutOfMemory>
     ensures { IfOk result (views.IsViewOf (map view members.now)) }
 {
+    let run = run_of(alloc, members)?;
     let events = events_of(alloc, members)?;
     let tasks = tasks(alloc, events.as_slice())?;
     let unsupported = unsupported_kinds(alloc, events.as_slice())?;
     let (things, links) = gather_all(alloc, events.as_slice())?.into_parts();
     Ok(View {
+        run,
         events: Items::new(events),
         things,
         links,

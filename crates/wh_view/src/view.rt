@@ -20,12 +20,124 @@ pub struct ViewedEvent {
     /// The duration of a timer (`startToFireTimeout`), as the history writes it; empty if there is
     /// none.
     pub duration: Text,
-    /// The values of the first of `input`, `result` and `details` that its attributes have: the
-    /// content of each payload if it is a text in UTF-8, or else the payload as JSON.
+    /// The values of the first that its attributes have of `input`, `result`, `details`, the
+    /// arguments of an update, its result, and the search attributes or the memo that it changes.
+    /// Of each payload the content if it is a text in UTF-8, what its bytes are if its encoding is
+    /// one of bytes (`binary/encrypted, 300 bytes`), or else the payload as JSON. What has a name,
+    /// as the details of a marker, stands after it.
     pub payloads: Items<Text>,
+    /// What else its attributes say.
+    pub details: EventDetails,
     /// The whole event as JSON, with no spaces between its parts, and the members of each object in
     /// the order of their names.
     pub json: Text,
+}
+
+/// What the attributes of an event say of the workflow task that it comes from, of an update, and
+/// of a failure. Texts are empty if absent, as they are written otherwise.
+#[derive(Drop)]
+pub struct EventDetails {
+    /// The number of the event that completed the workflow task in which the workflow gave this one
+    /// (`workflowTaskCompletedEventId`); 0 if it names none.
+    pub task_event: u64,
+    /// The update that it tells of.
+    pub update: UpdateName,
+    /// What failed: the failure (`failure`, or else `lastFailure`, or else that of the outcome of an
+    /// update), its cause, the cause of that one and so on, but no more than `MOST_FAILURES`.
+    pub failures: Items<ViewedFailure>,
+    /// Why it ended, or was not tried again.
+    pub ending: Ending,
+}
+
+/// The id and the name of an update, as far as an event of it tells them.
+#[derive(Drop)]
+pub struct UpdateName {
+    /// Its id (`updateId` of its metadata).
+    pub id: Text,
+    /// Its name (`name` of its input).
+    pub name: Text,
+}
+
+/// A failure (Temporal documentation, "Failures").
+#[derive(Drop)]
+pub struct ViewedFailure {
+    /// Its type: that of an Application Failure, or else the type of a timeout.
+    pub kind: Text,
+    /// Its message.
+    pub message: Text,
+    /// Its stack trace, which may have many lines.
+    pub stack_trace: Text,
+}
+
+/// Why something ended, in the words of Temporal's enumerations, and the run that goes on.
+#[derive(Drop)]
+pub struct Ending {
+    /// Why it was not tried again (`retryState`).
+    pub retry_state: Text,
+    /// Which timeout a workflow task ran into (`timeoutType`).
+    pub timeout_type: Text,
+    /// Why a workflow task, or a request to another workflow, failed (`cause`).
+    pub cause: Text,
+    /// The run in which the workflow goes on (`newExecutionRunId`).
+    pub next_run_id: Text,
+}
+
+/// A step of an update (Temporal documentation, "Updates").
+#[derive(Clone, Copy, Debug)]
+pub enum UpdateStep {
+    /// It was admitted, and waits for a workflow task.
+    Admitted,
+    /// The workflow accepted it.
+    Accepted,
+    /// The workflow rejected it.
+    Rejected,
+    /// The workflow completed it.
+    Completed,
+}
+
+/// The names of a run, as its first event tells them. Each is empty if absent.
+#[derive(Drop)]
+pub struct RunNames {
+    /// Its workflow id.
+    pub workflow_id: Text,
+    /// Its run id (`originalExecutionRunId`).
+    pub run_id: Text,
+    /// Its Task Queue.
+    pub task_queue: Text,
+    /// The workflow id of its parent.
+    pub parent_workflow_id: Text,
+    /// The run id of its parent.
+    pub parent_run_id: Text,
+    /// The run that it goes on from (`continuedExecutionRunId`).
+    pub previous_run_id: Text,
+}
+
+/// Whether a run is open, or how it was closed (Temporal documentation, "Workflow Execution").
+#[derive(Clone, Copy, Debug)]
+pub enum RunStatus {
+    /// No event closes it.
+    Running,
+    /// It completed.
+    Completed,
+    /// It failed.
+    Failed,
+    /// It was canceled.
+    Canceled,
+    /// It was terminated.
+    Terminated,
+    /// It timed out.
+    TimedOut,
+    /// It goes on in another run.
+    ContinuedAsNew,
+}
+
+/// A workflow task that was scheduled, and is not completed, failed or timed out.
+#[derive(Clone, Copy, Debug)]
+pub struct OpenTask {
+    /// The index of the event that scheduled it.
+    pub scheduled: usize,
+    /// The index of the event that says that a worker has started it.
+    pub started: Option<usize>,
 }
 
 /// The kind of a thing.
@@ -79,6 +191,8 @@ pub struct UnsupportedKind {
 /// What a history holds: its events, the things that they opened, and its workflow tasks.
 #[derive(Drop)]
 pub struct View {
+    /// The names of its run.
+    pub run: RunNames,
     /// Its events, each once and in their order.
     pub events: Items<ViewedEvent>,
     /// The things that they opened, in the order of the events that opened them.
@@ -87,8 +201,8 @@ pub struct View {
     /// ended, if there is one.
     pub links: Items<Option<usize>>,
     /// For each event, the workflow task to which it belongs, counted from 1: an event that records
-    /// a command belongs to the last task that was completed before it (to 0 if none was), and any
-    /// other event to the next one that is completed.
+    /// what the workflow did in a task belongs to the last task that was completed before it (to 0
+    /// if none was), and any other event to the next one that is completed.
     pub tasks: Items<usize>,
     /// What the reader of histories does not support of it: each type and each name of markers
     /// once, in the order of their first events.

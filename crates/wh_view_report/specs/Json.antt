@@ -2,9 +2,7 @@
 use Rattle.std.specs.Prelude.{ℕ, List, [], ◌∷◌, ◌++◌, length, codes, decimal, Option, Some, None, slice_get, option_map, option_and_then, if◌then◌else◌}
 use Rattle.std.specs.List.{flat_map}
 use Rattle.wh_view_report.specs.declared.text.TaskRange.{TaskRange}
-use Rattle.wh_view_report.specs.declared.text.Selection.{Selection}
-use Rattle.wh_view.specs.declared.view.ThingKind.{ThingKind}
-use Rattle.wh_view.specs.declared.view.ThingKind.TheVariants as kinds
+use Rattle.wh_console.specs.declared.selection.Selection.{Selection}
 use Rattle.wh_view.specs.declared.view.View.{View}
 use Rattle.wh_view.specs.declared.view.ViewedEvent.{ViewedEvent}
 use Rattle.wh_view.specs.declared.view.ViewedThing.{ViewedThing}
@@ -13,10 +11,15 @@ use Rattle.wh_view.specs.Parts.{word_of}
 use Rattle.wh_view.specs.declared.parts.EventUse.{EventUse}
 use Rattle.wh_view.specs.declared.parts.EventUse.TheVariants as words
 use Rattle.wh_view_report.specs.Texts.{completed_count, is_within, span_of}
-use Rattle.wh_view.specs.Lookups.{event_id, thing_of, task_of}
+use Rattle.wh_view.specs.Lookups.{thing_of, task_of}
 use Rattle.wh_tester.specs.Json.{escaped}
 use Rattle.wh_tester.specs.Report.{shown}
-use Rattle.wh_view_report.specs.Words.{mark_words}
+use Rattle.wh_view.specs.Times.{queue_time}
+use Rattle.wh_view_report.specs.JsonParts.{kind_word, place_at, place_member}
+use Rattle.wh_view_report.specs.JsonRun.{run_member, wait_objects}
+use Rattle.wh_view_report.specs.JsonText.{seconds_member}
+use Rattle.wh_view_report.specs.Spans.{time_taken}
+use Rattle.wh_view_report.specs.Words.{mark_words, marker_name}
 
 -- the number of an event, if it has one, as a further member of an object
 abbrev pub number_member : Option ℕ → List ℕ
@@ -34,25 +37,6 @@ side_word words.Other = codes "other"
 abbrev pub side_of : ViewedEvent → List ℕ
 side_of event = side_word (word_of event)
 
--- the kind of a thing, in Temporal's words
-abbrev pub kind_word : ThingKind → List ℕ
-kind_word kinds.Activity = codes "activity"
-kind_word kinds.Timer = codes "timer"
-kind_word kinds.Child = codes "childWorkflow"
-kind_word kinds.CancelRequest = codes "requestCancelExternalWorkflow"
-kind_word kinds.SignalRequest = codes "signalExternalWorkflow"
-kind_word kinds.Signal = codes "signal"
-kind_word kinds.Marker = codes "marker"
-
--- the place of the event at an index
-abbrev pub place_at : View → Option ℕ → Option ℕ
-place_at view index = option_map (λ event. event.place) (option_and_then (slice_get view.events) index)
-
--- the place of an event, as a further member of an object
-abbrev pub place_member : List ℕ → Option ℕ → List ℕ
-place_member key None = []
-place_member key (Some place) = codes ",\"" ++ (key ++ (codes "\":" ++ decimal place))
-
 -- a thing, as a further member of an object
 abbrev pub thing_member : View → Option ViewedThing → List ℕ
 thing_member view None = []
@@ -61,7 +45,9 @@ thing_member view (Some thing) =
     ++ (place_member (codes "opened") (place_at view (Some thing.opened))
     ++ (place_member (codes "started") (place_at view thing.started)
     ++ (place_member (codes "cancelling") (place_at view thing.cancelling)
-    ++ (place_member (codes "ended") (place_at view thing.ended) ++ codes "}"))))))
+    ++ (place_member (codes "ended") (place_at view thing.ended)
+    ++ (seconds_member (codes "waited") (queue_time view thing)
+    ++ (seconds_member (codes "took") (time_taken view thing) ++ codes "}"))))))))
 
 -- what is wrong with an event, as a further member of an object
 abbrev pub mark_member : List ℕ → List ℕ
@@ -90,15 +76,15 @@ event_object view event =
 abbrev pub within_object : View → TaskRange → ViewedEvent → List ℕ
 within_object view span event = if is_within view span event then event_object view event else []
 
--- the object with the counts
-abbrev pub counts_object : (events tasks things : ℕ) → List ℕ
-counts_object events tasks things =
+-- the object with the counts and the run
+abbrev pub counts_object : View → (events tasks things : ℕ) → List ℕ
+counts_object view events tasks things =
     codes "{\"events\":" ++ (decimal events ++ (codes ",\"tasks\":" ++ (decimal tasks
-    ++ (codes ",\"things\":" ++ (decimal things ++ codes "}\n")))))
+    ++ (codes ",\"things\":" ++ (decimal things ++ (run_member view ++ codes "}\n"))))))
 
--- the object with the counts of a view
+-- the object with the counts and the run of a view
 abbrev pub head_object : View → List ℕ
-head_object view = counts_object (length view.events) (completed_count view.events) (length view.things)
+head_object view = counts_object view (length view.events) (completed_count view.events) (length view.things)
 
 -- the name of a marker, if there is one, as a further member of an object
 abbrev pub marker_member : List ℕ → List ℕ
@@ -109,7 +95,7 @@ marker_member (c ∷ cs) = codes ",\"marker\":\"" ++ (escaped (shown (c ∷ cs))
 unfoldable pub kind_object : View → (count : ℕ) → ViewedEvent → List ℕ
 kind_object view count event =
     codes "{\"mark\":\"" ++ (mark_words view event ++ (codes "\",\"type\":\"" ++ (escaped (shown event.read.name)
-    ++ (codes "\"" ++ (marker_member (event_id event) ++ (codes ",\"events\":" ++ (decimal count
+    ++ (codes "\"" ++ (marker_member (marker_name event) ++ (codes ",\"events\":" ++ (decimal count
     ++ (codes ",\"place\":" ++ (decimal event.place ++ codes "}\n")))))))))
 
 -- that object, if there is a first event
@@ -125,9 +111,13 @@ unsupported_object view kind = kind_object_at view kind.count (slice_get view.ev
 abbrev pub top_objects : View → List ℕ
 top_objects view = head_object view ++ flat_map (unsupported_object view) view.unsupported
 
+-- the objects of the events of some tasks, and of what an open run waits for
+abbrev pub rest_objects : View → TaskRange → List ℕ
+rest_objects view span = flat_map (within_object view span) view.events ++ wait_objects view
+
 -- the objects of some tasks
 unfoldable pub span_objects : View → TaskRange → List ℕ
-span_objects view span = top_objects view ++ flat_map (within_object view span) view.events
+span_objects view span = top_objects view ++ rest_objects view span
 
 -- the whole report
 abbrev pub view_objects : View → Selection → List ℕ

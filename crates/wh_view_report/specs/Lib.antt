@@ -1,4 +1,11 @@
 pub mod Cut
 pub mod Words
+pub mod Spans
+pub mod Causes
+pub mod Run
+pub mod Waits
+pub mod JsonText
+pub mod JsonParts
+pub mod JsonRun
 pub mod Texts
 pub mod Json

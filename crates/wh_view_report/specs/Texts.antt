@@ -4,16 +4,20 @@ use Rattle.std.specs.List.{flat_map}
 use Rattle.wh_events.specs.declared.kind.EventKind.{EventKind}
 use Rattle.wh_events.specs.declared.kind.EventKind.TheVariants.{WorkflowTaskScheduled, WorkflowTaskStarted}
 use Rattle.wh_view_report.specs.declared.text.TaskRange.{TaskRange}
-use Rattle.wh_view_report.specs.declared.text.Selection.{Selection}
-use Rattle.wh_view_report.specs.declared.text.Selection.TheVariants.{All, Last, Around}
+use Rattle.wh_console.specs.declared.selection.Selection.{Selection}
+use Rattle.wh_console.specs.declared.selection.Selection.TheVariants.{All, Last, Around}
 use Rattle.wh_view.specs.declared.view.View.{View}
 use Rattle.wh_view.specs.declared.view.ViewedEvent.{ViewedEvent}
 use Rattle.wh_view.specs.declared.view.UnsupportedKind.{UnsupportedKind}
 use Rattle.wh_view_report.specs.Cut.{cut, label_text}
 use Rattle.wh_view.specs.Parts.{completes_task}
 use Rattle.wh_view.specs.Things.{is_number}
-use Rattle.wh_view.specs.Lookups.{opening_of, event_id, event_type, task_of}
-use Rattle.wh_view_report.specs.Words.{start_text, number_text, link_text, mark_words, attempt_text}
+use Rattle.wh_view.specs.Lookups.{opening_of, event_id, event_name, event_type, task_of}
+use Rattle.wh_view_report.specs.Causes.{because_text, ending_text}
+use Rattle.wh_view_report.specs.Run.{run_lines}
+use Rattle.wh_view_report.specs.Spans.{duration_text, step_span}
+use Rattle.wh_view_report.specs.Waits.{waits_line}
+use Rattle.wh_view_report.specs.Words.{start_text, number_text, link_text, marker_name, told_mark, attempt_text}
 
 -- how many tasks are completed
 abbrev pub completed_count : List ViewedEvent → ℕ
@@ -62,18 +66,21 @@ left_out view span = count_by (λ event. not (is_within view span event)) view.e
 abbrev pub value_line : List ℕ → List ℕ
 value_line value = codes "      " ++ (cut value ++ 10 ∷ [])
 
+-- what is told of an event behind its time and its thing
+unfoldable pub tail_text : View → ViewedEvent → List ℕ
+tail_text view event =
+    step_span view event ++ (attempt_text event.attempt ++ (duration_text event.duration
+    ++ (because_text event ++ (ending_text event ++ label_text (codes ", ") (told_mark view event)))))
+
 -- the line of an event
 unfoldable pub event_line : View → ViewedEvent → List ℕ
 event_line view event =
-    start_text view event ++ (cut event.read.name
+    start_text view event ++ (cut (event_name event)
     ++ (label_text (codes " ") (event_id (opening_of view event))
     ++ (label_text (codes " ") (event_type (opening_of view event))
     ++ (codes " " ++ (number_text event
     ++ (label_text (codes " ") event.moment
-    ++ (link_text view event ++ (attempt_text event.attempt
-    ++ (label_text (codes ", ") event.duration
-    ++ (label_text (codes ", because ") event.failure
-    ++ (label_text (codes ", ") (mark_words view event) ++ 10 ∷ [])))))))))))
+    ++ (link_text view event ++ (tail_text view event ++ 10 ∷ []))))))))
 
 -- the lines of an event
 abbrev pub event_text : View → ViewedEvent → List ℕ
@@ -116,36 +123,70 @@ head_line view =
 
 -- the type of an event, followed by the name of a marker
 abbrev pub kind_name : ViewedEvent → List ℕ
-kind_name event = cut event.read.name ++ label_text (codes " ") (event_id event)
+kind_name event = cut (event_name event) ++ label_text (codes " ") (marker_name event)
 
 -- the line of a kind that is not supported, from its first event
-unfoldable pub kind_line : View → (count : ℕ) → ViewedEvent → List ℕ
-kind_line view count event =
-    mark_words view event ++ (codes ": " ++ (kind_name event ++ (codes ", " ++ (decimal count
-    ++ (codes " events, first " ++ (number_text event ++ 10 ∷ []))))))
+unfoldable pub kind_line : (count : ℕ) → ViewedEvent → List ℕ
+kind_line count event =
+    codes "can't be replayed here: " ++ (kind_name event ++ (codes ", " ++ (decimal count
+    ++ (codes " events, first " ++ (number_text event ++ 10 ∷ [])))))
 
 -- that line, if there is a first event
-abbrev pub kind_line_at : View → (count : ℕ) → Option ViewedEvent → List ℕ
-kind_line_at view count None = []
-kind_line_at view count (Some event) = kind_line view count event
+abbrev pub kind_line_at : (count : ℕ) → Option ViewedEvent → List ℕ
+kind_line_at count None = []
+kind_line_at count (Some event) = kind_line count event
 
 -- the line of a kind that is not supported
 abbrev pub unsupported_line : View → UnsupportedKind → List ℕ
-unsupported_line view kind = kind_line_at view kind.count (slice_get view.events kind.first)
+unsupported_line view kind = kind_line_at kind.count (slice_get view.events kind.first)
 
--- the first lines: the counts, and a line for each kind that is not supported
+-- the first lines: the counts, the names of the run, and whether it is open
 abbrev pub top_text : View → List ℕ
-top_text view = head_line view ++ flat_map (unsupported_line view) view.unsupported
+top_text view = head_line view ++ run_lines view
 
--- the last line, if something is left out
+-- the last event, by its number or its place, if there is one
+abbrev pub last_at : Option ViewedEvent → List ℕ
+last_at None = []
+last_at (Some event) = codes ", the last is " ++ number_text event
+
+abbrev pub last_text : List ViewedEvent → List ℕ
+last_text events = last_at (slice_get events (length events - 1))
+
+-- that no event has the number
+abbrev pub none_numbered : ℕ → List ViewedEvent → List ℕ
+none_numbered number events =
+    if is_some (numbered_in number events) then []
+    else codes "no event " ++ (decimal number ++ (last_text events ++ 10 ∷ []))
+
+-- that the event around which tasks are selected is none of the view, if it is none
+abbrev pub missing_line : View → Selection → List ℕ
+missing_line view All = []
+missing_line view (Last tasks) = []
+missing_line view (Around number) = none_numbered number view.events
+
+-- the line on what is left out, if something is
 abbrev pub left_line : ℕ → List ℕ
 left_line left = if left == 0 then [] else decimal left ++ codes " events of other tasks are left out\n"
 
--- the text of some tasks
-unfoldable pub span_text : View → TaskRange → List ℕ
-span_text view span =
-    top_text view ++ (flat_map (shown_text view span) view.events ++ left_line (left_out view span))
+-- the lines of the events of some tasks, and how many events are left out
+abbrev pub tasks_text : View → TaskRange → List ℕ
+tasks_text view span = flat_map (shown_text view span) view.events ++ left_line (left_out view span)
+
+-- the last lines: a line for each kind that is not supported, and what an open run waits for
+abbrev pub bottom_text : View → List ℕ
+bottom_text view = flat_map (unsupported_line view) view.unsupported ++ waits_line view
+
+-- the text above and below the tasks, and that of some tasks
+abbrev pub front_text : View → Selection → List ℕ
+front_text view selection = top_text view ++ missing_line view selection
+
+abbrev pub rest_text : View → TaskRange → List ℕ
+rest_text view span = tasks_text view span ++ bottom_text view
+
+-- the text with some tasks
+unfoldable pub span_text : View → Selection → TaskRange → List ℕ
+span_text view selection span = front_text view selection ++ rest_text view span
 
 -- the whole text
 abbrev pub view_text : View → Selection → List ℕ
-view_text view selection = span_text view (span_of view selection)
+view_text view selection = span_text view selection (span_of view selection)

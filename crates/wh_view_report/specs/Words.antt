@@ -5,8 +5,10 @@ use Rattle.wh_json.specs.declared.fault.ReadFault.TheVariants as faults
 use Rattle.wh_view.specs.declared.view.View.{View}
 use Rattle.wh_view.specs.declared.view.ViewedEvent.{ViewedEvent}
 use Rattle.wh_view.specs.declared.view.ViewedThing.{ViewedThing}
-use Rattle.wh_view.specs.Lookups.{index_of, thing_of, task_of, lacks_thing}
+use Rattle.wh_events.specs.declared.kind.EventKind.{EventKind}
+use Rattle.wh_view.specs.Lookups.{event_id, index_of, thing_of, task_of, lacks_thing}
 use Rattle.wh_view.specs.Parts.{word_of}
+use Rattle.wh_view.specs.Unsupported.{is_unsupported}
 use Rattle.wh_view.specs.declared.parts.EventUse.{EventUse}
 use Rattle.wh_view.specs.declared.parts.EventUse.TheVariants as words
 
@@ -70,6 +72,18 @@ marked None lacks = if lacks then codes "opened by no event" else []
 -- what is wrong with an event of a view; empty if nothing is
 abbrev pub mark_words : View → ViewedEvent → List ℕ
 mark_words view event = marked event.read.fault (lacks_thing view event)
+
+-- the name of a marker whose name is not supported; empty for an event of another type that is not
+abbrev pub marker_by : Option EventKind → List ℕ → List ℕ
+marker_by None id = []
+marker_by (Some kind) id = id
+
+abbrev pub marker_name : ViewedEvent → List ℕ
+marker_name event = marker_by event.read.kind (event_id event)
+
+-- what is wrong with an event, as its line tells it: not that its type is not supported
+abbrev pub told_mark : View → ViewedEvent → List ℕ
+told_mark view event = if is_unsupported event.read.fault then [] else mark_words view event
 
 -- the attempt of an event, if it names one
 abbrev pub attempt_text : ℕ → List ℕ

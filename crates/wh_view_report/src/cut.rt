@@ -3,18 +3,35 @@
 ghost use Rattle.std.specs.Prelude.{◌≡◌, ◌∷◌, [], Some, length};
 ghost use Rattle.std.specs.Fmt.{DisplaysOnOk};
 ghost use Rattle.std.specs.Str.{chars};
-ghost use Rattle.wh_view_report.specs.Cut.{shown_char, front, rest_text, cut, label_text};
+ghost use Rattle.wh_view_report.specs.Cut.{is_unseen, shown_char, front, rest_text, cut, label_text};
 
 use std::fmt;
 
 /// The most characters of a text that are shown.
 pub(crate) const WIDTH: usize = 80;
 
-/// Returns a character as it is shown.
-fn shown_char(c: char) -> char
-    ensures { result ∷ [] ≡ shown_char c }
+/// Returns whether a character would not be seen as what it is: a control character, or one that
+/// changes the direction of writing.
+fn is_unseen(c: char) -> bool
+    ensures { result ≡ is_unseen c }
 {
-    if ' ' <= c && c <= '~' { c } else { '?' }
+    matches!(
+        c,
+        '\0'..='\u{1f}'
+            | '\u{7f}'..='\u{9f}'
+            | '\u{200e}'..='\u{200f}'
+            | '\u{2028}'..='\u{202e}'
+            | '\u{2066}'..='\u{2069}'
+            | '\u{61c}'
+            | '\u{feff}'
+    )
+}
+
+/// Returns a character as it is shown.
+pub(crate) fn shown_char(c: char) -> char
+    ensures { result ≡ shown_char c }
+{
+    if is_unseen(c) { '?' } else { c }
 }
 
 /// Writes the first characters of a text.
@@ -65,8 +82,8 @@ impl fmt::Display for Rest {
     }
 }
 
-/// The first 80 characters of a text, with `?` for each one that is not between the space and `~`.
-/// If the text is longer, the number of its characters follows.
+/// The first 80 characters of a text, with `?` for each control character and each one that changes
+/// the direction of writing. If the text is longer, the number of its characters follows.
 #[derive(Drop)]
 pub(crate) struct Excerpt<'a>(pub(crate) &'a str);
 

@@ -5,13 +5,18 @@ ghost use Rattle.std.specs.List.{flat_map};
 ghost use Rattle.std.specs.Io.KnownBytes.{Appends};
 ghost use Rattle.wh_view_report.specs.Json as json;
 
-use crate::text::{Selection, TaskRange, completed_count, is_within, span_of};
-use crate::words::mark_of;
+use crate::json_parts::{PlaceMember, kind_word, place_at};
+use crate::json_run::{RunMember, write_waits};
+use crate::json_text::SecondsMember;
+use crate::spans::time_taken;
+use crate::text::{TaskRange, completed_count, is_within, span_of};
+use crate::words::{mark_of, marker_name};
 use std::io::Write;
 use std::{fmt, io};
+use wh_console::Selection;
 use wh_events::EventNo;
 use wh_tester::EscapedName;
-use wh_view::{EventUse, ThingKind, UnsupportedKind, View, ViewedEvent};
+use wh_view::{EventUse, UnsupportedKind, View, ViewedEvent};
 
 /// The number of an event, as a further member of an object.
 #[derive(Clone, Copy)]
@@ -43,49 +48,6 @@ fn side_of(event: &ViewedEvent) -> &'static str
     }
 }
 
-/// Returns the kind of a thing, in Temporal's words.
-fn kind_word(kind: ThingKind) -> &'static str
-    ensures { result.now ≡ json.kind_word kind }
-{
-    match kind {
-        ThingKind::Activity => "activity",
-        ThingKind::Timer => "timer",
-        ThingKind::Child => "childWorkflow",
-        ThingKind::CancelRequest => "requestCancelExternalWorkflow",
-        ThingKind::SignalRequest => "signalExternalWorkflow",
-        ThingKind::Signal => "signal",
-        ThingKind::Marker => "marker",
-    }
-}
-
-/// Returns the place of the event at an index.
-fn place_at(view: &View, index: Option<usize>) -> Option<u64>
-    ensures { result ≡ json.place_at view.now index }
-{
-    match view.events.get().get(index?) {
-        Some(event) => Some(event.place),
-        None => None,
-    }
-}
-
-/// The place of an event, as a further member of an object.
-#[derive(Clone, Copy)]
-struct PlaceMember(&'static str, Option<u64>);
-
-impl fmt::Display for PlaceMember {
-    ghost output = { λ p. Some (json.place_member p.0.now p.1) };
-
-    fn fmt<W: fmt::Write>(&self, f: &mut fmt::Formatter<W>) -> fmt::Result {
-        match self.1 {
-            Some(place) => {
-                let key = self.0;
-                write!(f, ",\"{key}\":{place}")
-            }
-            None => Ok(()),
-        }
-    }
-}
-
 /// The thing of an event, as a further member of an object.
 #[derive(Drop)]
 struct ThingMember<'a>(&'a View, &'a ViewedEvent);
@@ -102,9 +64,11 @@ impl fmt::Display for ThingMember<'_> {
         let started = PlaceMember("started", place_at(self.0, thing.started));
         let cancelling = PlaceMember("cancelling", place_at(self.0, thing.cancelling));
         let ended = PlaceMember("ended", place_at(self.0, thing.ended));
+        let waited = SecondsMember("waited", self.0.queue_time(&thing));
+        let taken = SecondsMember("took", time_taken(self.0, &thing));
         write!(
             f,
-            ",\"thing\":{{\"kind\":\"{kind}\"{opened}{started}{cancelling}{ended}}}"
+            ",\"thing\":{{\"kind\":\"{kind}\"{opened}{started}{cancelling}{ended}{waited}{taken}}}"
         )
     }
 }
@@ -182,28 +146,31 @@ fn write_events<O: Write>(view: &View, span: TaskRange, writer: &mut O) -> io::R
     Ok(())
 }
 
-/// Writes the object with the counts.
+/// Writes the object with the counts and the run.
 fn write_counts<O: Write>(
+    view: &View,
     events: usize,
     tasks: usize,
     things: usize,
     writer: &mut O,
 ) -> io::Result<()>
     ensures { OnOk result
-        (Appends (O.contents writer.old) (O.contents writer.new) (json.counts_object events tasks things)) }
+        (Appends (O.contents writer.old) (O.contents writer.new) (json.counts_object view.now events tasks things)) }
 {
+    let run = RunMember(view);
     write!(
         writer,
-        "{{\"events\":{events},\"tasks\":{tasks},\"things\":{things}}}\n"
+        "{{\"events\":{events},\"tasks\":{tasks},\"things\":{things}{run}}}\n"
     )
 }
 
-/// Writes the object with the counts of a view.
+/// Writes the object with the counts and the run of a view.
 fn write_head<O: Write>(view: &View, writer: &mut O) -> io::Result<()>
     ensures { OnOk result (Appends (O.contents writer.old) (O.contents writer.new) (json.head_object view.now)) }
 {
     let events = view.events.get();
     write_counts(
+        view,
         events.len(),
         completed_count(events),
         view.things.get().len(),
@@ -240,7 +207,7 @@ fn write_kind_of<O: Write>(
 {
     let mark = mark_of(view, event);
     let name = EscapedName(event.read.name.get());
-    let marker = MarkerMember(event.id());
+    let marker = MarkerMember(marker_name(event));
     let place = event.place;
     write!(
         writer,
@@ -278,6 +245,15 @@ fn write_top<O: Write>(view: &View, writer: &mut O) -> io::Result<()>
     write_kinds(view, writer)
 }
 
+/// Writes the objects of the events of some tasks, and of what an open run waits for.
+fn write_rest<O: Write>(view: &View, span: TaskRange, writer: &mut O) -> io::Result<()>
+    ensures { OnOk result
+        (Appends (O.contents writer.old) (O.contents writer.new) (json.rest_objects view.now span)) }
+{
+    write_events(view, span, writer)?;
+    write_waits(view, writer)
+}
+
 /// Writes the objects of some tasks.
 #[tactic(auto, unfolding(crate::specs::Json::span_objects))]
 fn write_span<O: Write>(view: &View, span: TaskRange, writer: &mut O) -> io::Result<()>
@@ -285,12 +261,17 @@ fn write_span<O: Write>(view: &View, span: TaskRange, writer: &mut O) -> io::Res
         (Appends (O.contents writer.old) (O.contents writer.new) (json.span_objects view.now span)) }
 {
     write_top(view, writer)?;
-    write_events(view, span, writer)
+    write_rest(view, span, writer)
 }
 
 /// Writes a view as lines of JSON (RFC 8259): one object a line, with no spaces between its parts,
-/// and one line feed after it. First come the counts of the whole history,
-/// `{"events":N,"tasks":N,"things":N}`; `tasks` counts those that were completed. Then each type
+/// and one line feed after it. First come the counts of the whole history and its run,
+/// `{"events":N,"tasks":N,"things":N,"run":{"status":"..",..}}`; `tasks` counts those that were
+/// completed. `status` is `Running`, `Completed`, `Failed`, `Canceled`, `Terminated`, `TimedOut` or
+/// `ContinuedAsNew`. Further members of the run are `workflowId`, `runId`, `taskQueue`,
+/// `parentWorkflowId`, `parentRunId` and `previousRunId`, as far as its first event tells them, and
+/// of a run that is closed `closed`, the place of the event that closes it, `seconds`, which it
+/// took, and `nextRunId`, the run in which it goes on. Then each type
 /// that the reader of histories does not support has an object,
 /// `{"mark":"not supported","type":"NAME","events":N,"place":P}`, with the number of its events and
 /// the place of the first. A name of markers that is not supported has the mark
@@ -299,9 +280,15 @@ fn write_span<O: Write>(view: &View, span: TaskRange, writer: &mut O) -> io::Res
 /// - `place`, counted from 1, and `event`, its number, if it has one;
 /// - `task`, to which it belongs, and `is`: `told`, `completes`, `gives` or `other`;
 /// - `mark`, what is wrong with it;
-/// - `thing`, if it has one: its `kind` and the places of the events that `opened`, `started`,
-///   canceled (`cancelling`) and `ended` it;
+/// - `thing`, if it has one: its `kind`, the places of the events that `opened`, `started`,
+///   canceled (`cancelling`) and `ended` it, and in seconds how long it `waited` from its opening to
+///   its start, and `took` from there to its end;
 /// - `recorded`, the whole event as the history has it.
+///
+/// If the run is open, each thing for which it waits has an object at the end, with its kind as
+/// `waits`, its `id` and `type`, the places of the events that `opened` and `started` it, `since`
+/// when it is open, and `until` when a timer is due. A workflow task that is not completed has the
+/// last one, with the kind `workflowTask`.
 ///
 /// After an error some of the lines may have been written.
 pub fn write_json_view<O: Write>(
@@ -312,5 +299,5 @@ pub fn write_json_view<O: Write>(
     ensures { OnOk result
         (Appends (O.contents writer.old) (O.contents writer.new) (json.view_objects view.now selection)) }
 {
-    write_span(view, span_of(view, selection), writer)
+    write_span(view, span_of(view, &selection), writer)
 }

@@ -5,23 +5,17 @@ ghost use Rattle.std.specs.List.{flat_map};
 ghost use Rattle.std.specs.Io.KnownBytes.{Appends};
 ghost use Rattle.wh_view_report.specs.Texts as texts;
 
+use crate::causes::{Because, EndingText};
 use crate::cut::{Excerpt, LabelText};
-use crate::words::{Attempt, Link, Number, Start, mark_of};
+use crate::run::write_run;
+use crate::spans::{DurationText, StepSpan};
+use crate::waits::write_waits;
+use crate::words::{Attempt, Link, Number, Start, marker_name, told_mark};
 use std::io::Write;
 use std::{fmt, io};
+use wh_console::Selection;
 use wh_events::{EventKind, EventNo, Text};
 use wh_view::{UnsupportedKind, View, ViewedEvent};
-
-/// Which tasks of a view are written.
-#[derive(Clone, Copy, Debug)]
-pub enum Selection {
-    /// All tasks.
-    All,
-    /// The last so many completed tasks, and what follows them.
-    Last(usize),
-    /// The task of the event with the number, with the two tasks before and the two after it.
-    Around(EventNo),
-}
 
 /// A range of tasks: one, and so many after it.
 #[derive(Clone, Copy)]
@@ -85,8 +79,8 @@ fn span_around(task: usize) -> TaskRange
 }
 
 /// Returns the tasks that are selected.
-pub(crate) fn span_of(view: &View, selection: Selection) -> TaskRange
-    ensures { result ≡ texts.span_of view.now selection }
+pub(crate) fn span_of(view: &View, selection: &Selection) -> TaskRange
+    ensures { result ≡ texts.span_of view.now selection.now }
 {
     let events = view.events.get();
     match selection {
@@ -95,10 +89,10 @@ pub(crate) fn span_of(view: &View, selection: Selection) -> TaskRange
             more: events.len(),
         },
         Selection::Last(tasks) => TaskRange {
-            first: (completed_count(events) + 1).saturating_sub(tasks),
+            first: (completed_count(events) + 1).saturating_sub(*tasks),
             more: events.len(),
         },
-        Selection::Around(number) => match numbered_in(events, number) {
+        Selection::Around(number) => match numbered_in(events, *number) {
             Some(event) => span_around(view.task_of(event)),
             None => TaskRange { first: 0, more: 0 },
         },
@@ -135,6 +129,27 @@ pub fn is_quiet(event: &ViewedEvent) -> bool
     )
 }
 
+/// What is told of an event behind its time and its thing: how long the thing waited or took, its
+/// attempt, its duration, why it failed, and what is wrong with it.
+#[derive(Drop)]
+struct EventTail<'a>(&'a View, &'a ViewedEvent);
+
+impl fmt::Display for EventTail<'_> {
+    ghost output = { λ t. Some (texts.tail_text t.0.now t.1.now) };
+
+    #[tactic(auto, unfolding(crate::specs::Texts::tail_text))]
+    fn fmt<W: fmt::Write>(&self, f: &mut fmt::Formatter<W>) -> fmt::Result {
+        let event = self.1;
+        let span = StepSpan(self.0, event);
+        let attempt = Attempt(event.attempt);
+        let duration = DurationText(event.duration.get());
+        let because = Because(event);
+        let ending = EndingText(event);
+        let mark = LabelText(", ", told_mark(self.0, event));
+        write!(f, "{span}{attempt}{duration}{because}{ending}{mark}")
+    }
+}
+
 /// Writes the line of an event.
 #[tactic(auto, unfolding(crate::specs::Texts::event_line))]
 fn write_line<O: Write>(view: &View, event: &ViewedEvent, writer: &mut O) -> io::Result<()>
@@ -143,19 +158,16 @@ fn write_line<O: Write>(view: &View, event: &ViewedEvent, writer: &mut O) -> io:
 {
     let opening = view.opening_of(event);
     let start = Start(view, event);
-    let name = Excerpt(event.read.name.get());
+    let name = Excerpt(event.name());
     let id = LabelText(" ", opening.id());
     let kind = LabelText(" ", opening.type_name());
     let number = Number(event);
     let moment = LabelText(" ", event.moment.get());
     let link = Link(view, event);
-    let attempt = Attempt(event.attempt);
-    let duration = LabelText(", ", event.duration.get());
-    let failure = LabelText(", because ", event.failure.get());
-    let mark = LabelText(", ", mark_of(view, event));
+    let tail = EventTail(view, event);
     write!(
         writer,
-        "{start}{name}{id}{kind} {number}{moment}{link}{attempt}{duration}{failure}{mark}\n"
+        "{start}{name}{id}{kind} {number}{moment}{link}{tail}\n"
     )
 }
 
@@ -249,27 +261,24 @@ impl fmt::Display for KindName<'_> {
     ghost output = { λ k. Some (texts.kind_name k.0.now) };
 
     fn fmt<W: fmt::Write>(&self, f: &mut fmt::Formatter<W>) -> fmt::Result {
-        let name = Excerpt(self.0.read.name.get());
-        let id = LabelText(" ", self.0.id());
+        let name = Excerpt(self.0.name());
+        let id = LabelText(" ", marker_name(self.0));
         write!(f, "{name}{id}")
     }
 }
 
 /// Writes the line of a kind that is not supported, from its first event.
 #[tactic(auto, unfolding(crate::specs::Texts::kind_line))]
-fn write_kind_of<O: Write>(
-    view: &View,
-    count: usize,
-    event: &ViewedEvent,
-    writer: &mut O,
-) -> io::Result<()>
+fn write_kind_of<O: Write>(count: usize, event: &ViewedEvent, writer: &mut O) -> io::Result<()>
     ensures { OnOk result
-        (Appends (O.contents writer.old) (O.contents writer.new) (texts.kind_line view.now count event.now)) }
+        (Appends (O.contents writer.old) (O.contents writer.new) (texts.kind_line count event.now)) }
 {
-    let mark = mark_of(view, event);
     let name = KindName(event);
     let number = Number(event);
-    write!(writer, "{mark}: {name}, {count} events, first {number}\n")
+    write!(
+        writer,
+        "can't be replayed here: {name}, {count} events, first {number}\n"
+    )
 }
 
 /// Writes the line of a kind that is not supported.
@@ -278,7 +287,7 @@ fn write_kind<O: Write>(view: &View, kind: UnsupportedKind, writer: &mut O) -> i
         (Appends (O.contents writer.old) (O.contents writer.new) (texts.unsupported_line view.now kind)) }
 {
     match view.events.get().get(kind.first) {
-        Some(event) => write_kind_of(view, kind.count, event, writer),
+        Some(event) => write_kind_of(kind.count, event, writer),
         None => Ok(()),
     }
 }
@@ -294,12 +303,12 @@ fn write_kinds<O: Write>(view: &View, writer: &mut O) -> io::Result<()>
     Ok(())
 }
 
-/// Writes the first lines: the counts, and what is not supported.
+/// Writes the first lines: the counts, the names of the run, and whether it is open.
 fn write_top<O: Write>(view: &View, writer: &mut O) -> io::Result<()>
     ensures { OnOk result (Appends (O.contents writer.old) (O.contents writer.new) (texts.top_text view.now)) }
 {
     write_head(view, writer)?;
-    write_kinds(view, writer)
+    write_run(view, writer)
 }
 
 /// Writes how many events are left out, if some are.
@@ -312,38 +321,131 @@ fn write_left<O: Write>(left: usize, writer: &mut O) -> io::Result<()>
     write!(writer, "{left} events of other tasks are left out\n")
 }
 
-/// Writes the first lines, the lines of the events of some tasks, and how many are left out.
-#[tactic(auto, unfolding(crate::specs::Texts::span_text))]
-fn write_span<O: Write>(view: &View, span: TaskRange, writer: &mut O) -> io::Result<()>
-    ensures { OnOk result
-        (Appends (O.contents writer.old) (O.contents writer.new) (texts.span_text view.now span)) }
-{
-    write_top(view, writer)?;
-    write_events(view, span, writer)?;
-    write_left(left_out(view, span), writer)
+/// The last event, by its number or its place, after other words; nothing if there is none.
+#[derive(Drop)]
+struct LastEvent<'a>(&'a [ViewedEvent]);
+
+impl fmt::Display for LastEvent<'_> {
+    ghost output = { λ l. Some (texts.last_text l.0.now) };
+
+    fn fmt<W: fmt::Write>(&self, f: &mut fmt::Formatter<W>) -> fmt::Result {
+        match self.0.last() {
+            Some(event) => {
+                let number = Number(event);
+                write!(f, ", the last is {number}")
+            }
+            None => Ok(()),
+        }
+    }
 }
 
-/// Writes a view as text. The first line has the workflow type and the counts. Then each type, or
-/// name of markers, that the reader of histories does not support has a line, with the number of
-/// its events and the number of the first one, whichever tasks are selected. Then each event of the
-/// selected tasks has a line, in the order of the history, except `WorkflowTaskScheduled` and
-/// `WorkflowTaskStarted`:
+/// Writes that no event has the number, if none has it.
+fn write_none_numbered<O: Write>(view: &View, number: EventNo, writer: &mut O) -> io::Result<()>
+    ensures { OnOk result (Appends (O.contents writer.old) (O.contents writer.new)
+        (texts.none_numbered number view.now.events)) }
+{
+    let events = view.events.get();
+    if numbered_in(events, number).is_some() {
+        return Ok(());
+    }
+    let number = number.get();
+    let last = LastEvent(events);
+    write!(writer, "no event {number}{last}\n")
+}
+
+/// Writes that the event around which tasks are selected is none of the view, if it is none.
+fn write_missing<O: Write>(view: &View, selection: &Selection, writer: &mut O) -> io::Result<()>
+    ensures { OnOk result
+        (Appends (O.contents writer.old) (O.contents writer.new) (texts.missing_line view.now selection.now)) }
+{
+    match selection {
+        Selection::All | Selection::Last(_) => Ok(()),
+        Selection::Around(number) => write_none_numbered(view, *number, writer),
+    }
+}
+
+/// Writes the lines of the events of some tasks, and how many events are left out.
+fn write_tasks<O: Write>(view: &View, span: TaskRange, writer: &mut O) -> io::Result<()>
+    ensures { OnOk result
+        (Appends (O.contents writer.old) (O.contents writer.new) (texts.tasks_text view.now span)) }
+{
+    let left = left_out(view, span);
+    write_events(view, span, writer)?;
+    write_left(left, writer)
+}
+
+/// Writes the last lines: what can't be replayed, and what an open run waits for.
+fn write_bottom<O: Write>(view: &View, writer: &mut O) -> io::Result<()>
+    ensures { OnOk result (Appends (O.contents writer.old) (O.contents writer.new) (texts.bottom_text view.now)) }
+{
+    write_kinds(view, writer)?;
+    write_waits(view, writer)
+}
+
+/// Writes the first lines, and that there is no event of the number that is selected.
+fn write_front<O: Write>(view: &View, selection: &Selection, writer: &mut O) -> io::Result<()>
+    ensures { OnOk result
+        (Appends (O.contents writer.old) (O.contents writer.new) (texts.front_text view.now selection.now)) }
+{
+    write_top(view, writer)?;
+    write_missing(view, selection, writer)
+}
+
+/// Writes the lines of some tasks, and the last lines.
+fn write_rest<O: Write>(view: &View, span: TaskRange, writer: &mut O) -> io::Result<()>
+    ensures { OnOk result
+        (Appends (O.contents writer.old) (O.contents writer.new) (texts.rest_text view.now span)) }
+{
+    write_tasks(view, span, writer)?;
+    write_bottom(view, writer)
+}
+
+/// Writes the text with some tasks.
+#[tactic(auto, unfolding(crate::specs::Texts::span_text))]
+fn write_span<O: Write>(
+    view: &View,
+    selection: &Selection,
+    span: TaskRange,
+    writer: &mut O,
+) -> io::Result<()>
+    ensures { OnOk result
+        (Appends (O.contents writer.old) (O.contents writer.new) (texts.span_text view.now selection.now span)) }
+{
+    write_front(view, selection, writer)?;
+    write_rest(view, span, writer)
+}
+
+/// Writes a view as text. The first lines have
+/// - the workflow type and the counts;
+/// - the workflow id, the run id, the Task Queue and the parent of the run, as far as its first
+///   event tells them;
+/// - `Running`, or how the run was closed, by which event, and after how long.
+///
+/// If tasks around an event are selected and no event has its number, the next line says so. Then
+/// each event of the selected tasks has a line, in the order of the history, except
+/// `WorkflowTaskScheduled` and `WorkflowTaskStarted`:
 /// - `  told TYPE ..` for an event that becomes an activation job of the next task,
 /// - `task N: WorkflowTaskCompleted ..` for the completion of a task,
-/// - `  gives TYPE ..` for an event that records a command of that task.
+/// - `  gives TYPE ..` for an event that records what the workflow did in that task.
 ///
 /// After the type come the id and the type of the event's thing, its number as `(event N)`, its
-/// time as the history writes it, the events that started, canceled, ended or opened the thing, the
-/// attempt, the duration of a timer, why something failed, and what is wrong with the event. Each
+/// time as the history writes it, the events that started, canceled, ended or opened the thing, how
+/// long the thing waited for its start or took from there to its end, the attempt, the duration of
+/// a timer, why something failed, with the causes of that, and what is wrong with the event. Each
 /// value of the event follows on a line of its own. Of a text the first 80 characters are shown; if
-/// it is longer, the number of its characters follows. The last line says how many events belong to
+/// it is longer, the number of its characters follows. The next line says how many events belong to
 /// other tasks, if there are some. If tasks around an event are selected and no event has its
-/// number, these are all events but those that record commands before the first completed task.
+/// number, these are all events but those of tasks that were completed before the first one.
+///
+/// Then each type, or name of markers, that the reader of histories does not support has a line,
+/// with the number of its events and the number of the first one, whichever tasks are selected. The
+/// last line says what the run waits for, if it is open.
 ///
 /// After an error some of the text may have been written.
 pub fn write_view<O: Write>(view: &View, selection: Selection, writer: &mut O) -> io::Result<()>
     ensures { OnOk result
         (Appends (O.contents writer.old) (O.contents writer.new) (texts.view_text view.now selection)) }
 {
-    write_span(view, span_of(view, selection), writer)
+    let span = span_of(view, &selection);
+    write_span(view, &selection, span, writer)
 }

@@ -2,7 +2,8 @@
 
 ghost use Rattle.std.specs.Prelude.{◌≡◌, Some};
 ghost use Rattle.wh_view_report.specs.Words.{number_text, reference_text, ended_text, link_text};
-ghost use Rattle.wh_view_report.specs.Words.{fault_words, mark_words, attempt_text, start_text};
+ghost use Rattle.wh_view_report.specs.Words.{fault_words, mark_words, marker_name, told_mark, attempt_text, start_text};
+ghost use Rattle.wh_view.specs.Unsupported.{is_unsupported};
 
 use std::fmt;
 use wh_json::ReadFault;
@@ -125,6 +126,39 @@ pub fn mark_of(view: &View, event: &ViewedEvent) -> &'static str
         } else {
             ""
         },
+    }
+}
+
+/// Returns the name of a marker whose name is not supported; empty for an event of another type
+/// that is not.
+pub(crate) fn marker_name(event: &ViewedEvent) -> &str
+    ensures { result.now ≡ marker_name event.now }
+{
+    match &event.read.kind {
+        Some(_) => event.id(),
+        None => "",
+    }
+}
+
+/// Returns whether the reader of histories refuses an event for its type, or the name of a marker.
+fn is_unsupported(fault: &Option<ReadFault>) -> bool
+    ensures { result ≡ is_unsupported fault.now }
+{
+    matches!(
+        fault,
+        Some(ReadFault::UnsupportedEvent { .. } | ReadFault::UnsupportedMarker { .. })
+    )
+}
+
+/// Returns what is wrong with an event, as its line tells it: not that its type is not supported,
+/// which concerns replay alone.
+pub(crate) fn told_mark(view: &View, event: &ViewedEvent) -> &'static str
+    ensures { result.now ≡ told_mark view.now event.now }
+{
+    if is_unsupported(&event.read.fault) {
+        ""
+    } else {
+        mark_of(view, event)
     }
 }
 

@@ -1,3 +1,2 @@
 pub mod Sticky
 pub mod Outcomes
-pub mod Noted

@@ -1,9 +1,7 @@
 pub mod Plans
 pub mod Policies
+pub mod PolicyFaults
 pub mod Reports
-pub mod Times
 pub mod Untaken
 pub mod Progress
-pub mod Calls
-pub mod Counted
 pub mod MetricsPaths

@@ -2,12 +2,12 @@
 use Rattle.std.specs.Prelude.{◌≡◌, ℕ, ◌+◌, ◌<◌, ◌≤◌, ◌&&◌, Bool, IsSome, Option, Some, None, Result, Ok, if◌then◌else◌, leb}
 use Rattle.wh_command_line.specs.Sizes.{config_of}
 use Rattle.wh_command_line.specs.declared.work.WorkOptions.{WorkOptions}
-use Rattle.wh_host.specs.Machine.{IsConfig}
-use Rattle.wh_host.specs.declared.config.Config.{Config}
+use Rattle.wh_slots.specs.Sizes.{IsConfig}
+use Rattle.wh_slots.specs.declared.sizes.Config.{Config}
 use Rattle.wh_client.specs.declared.options.LiveOptions.{LiveOptions}
+use Rattle.wh_crew.specs.declared.serving.LiveEnd.{LiveEnd}
 use Rattle.wh_work.specs.Policies.{ArePolicies}
 use Rattle.wh_work.specs.declared.plan.LivePlan.{LivePlan}
-use Rattle.wh_work.specs.declared.report.WorkEnd.{WorkEnd}
 
 -- runs are kept between their tasks: there is a cache, and a worker beside the one that polls the queue of all workers
 abbrev pub keeps_runs : WorkOptions → Bool
@@ -42,10 +42,10 @@ pub record IsLivePlan (options : WorkOptions) (plan : LivePlan) : Type 0 where
 
 -- what may be left of live tasks that were served by a plan
 abbrev pub LivesBy : Type 1
-LivesBy = LivePlan → WorkEnd → Type 0
+LivesBy = LivePlan → LiveEnd → Type 0
 
 -- what is left if a call that serves live tasks gives it
-abbrev pub lives : {E : Type 0} → (LivePlan → Result WorkEnd E → Type 0) → LivesBy
+abbrev pub lives : {E : Type 0} → (LivePlan → Result LiveEnd E → Type 0) → LivesBy
 lives gives plan end = gives plan (Ok end)
 
 -- live tasks may be served by each plan for a host of good sizes

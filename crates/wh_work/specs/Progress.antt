@@ -1,105 +1,44 @@
--- What is counted of the turns and the calls of workers, and what is reported of it.
-use Rattle.std.specs.Prelude.{ℕ, ◌==◌, length, ◌*◌, ◌/◌, ◌-◌, ◌^◌, max, min, Bool, true, false, ◌&&◌, ◌||◌, not, nat_eq, bytes_eq, Option, Some, None, Result, Ok, List, codes}
-use Rattle.std.specs.List.{starts_with}
-use Rattle.serde_json.specs.Data.{Data}
+-- What is counted of the turns of workers, and what is reported.
+use Rattle.std.specs.Prelude.{ℕ, ◌*◌, ◌/◌, ◌-◌, ◌^◌, max, min, Bool, true, false, Option, Some, None, Result, Ok, List}
 use Rattle.wh_console.specs.declared.format.Format.{Format}
 use Rattle.wh_console.specs.declared.format.Format.TheVariants as formats
 use Rattle.wh_host.specs.declared.reply.Counts.{Counts}
 use Rattle.wh_host.specs.declared.reply.Outcome.{Outcome}
 use Rattle.wh_host.specs.declared.reply.Outcome.TheVariants.{Completed, Failed}
-use Rattle.wh_json.specs.Fields.{field, text_of}
-use Rattle.wh_live.specs.Tallies.{together}
+use Rattle.wh_crew.specs.declared.serving.LiveEnd.{LiveEnd}
 use Rattle.wh_metrics.specs.Lines.{counts_text, json_text}
 use Rattle.wh_metrics.specs.declared.metrics.Gauges.{Gauges}
 use Rattle.wh_metrics.specs.declared.metrics.Metrics.{Metrics}
 use Rattle.wh_metrics.specs.declared.metrics.TaskSlots.{TaskSlots}
+use Rattle.wh_notes.specs.Counts.{no_source_counts}
+use Rattle.wh_notes.specs.Sums.{together}
+use Rattle.wh_notes.specs.Untaken.{completed_of, failed_of, failures_of, refused_of}
+use Rattle.wh_notes.specs.declared.counts.SourceCounts.{SourceCounts}
 use Rattle.wh_poll.specs.declared.serve.Served.{Served}
 use Rattle.wh_poll.specs.declared.serve.Served.TheVariants.{Workflow, Activity}
 use Rattle.wh_slots.specs.declared.SlotCount.{SlotCount}
-use Rattle.wh_slots.specs.declared.SlotKind.{SlotKind}
-use Rattle.wh_slots.specs.declared.SlotKind.TheVariants as slot
 use Rattle.wh_tasks.specs.declared.source.SourceFault.{SourceFault}
-use Rattle.wh_work.specs.Times.{no_times}
-use Rattle.wh_work.specs.Untaken.{completed_of, failed_of, failures_of, refused_of}
-use Rattle.wh_work.specs.declared.report.WorkEnd.{WorkEnd}
-use Rattle.wh_work.specs.declared.untaken.UntakenAnswers.{UntakenAnswers}
+use Rattle.wh_work.specs.declared.counting.TurnCounts.{TurnCounts}
 
--- nothing is counted
-abbrev pub nothing : Metrics
-nothing = record {
-  completed = 0;
-  failed = 0;
-  held = None;
-  hits = 0;
-  misses = 0;
-  polls = 0;
-  empty_polls = 0;
-  not_found = 0;
-  refused = 0;
-  workflow_times = no_times;
-  activity_times = no_times;
-}
+-- there was no turn
+abbrev pub no_turns : TurnCounts
+no_turns = record { completed = 0; failed = 0; hits = 0; misses = 0 }
 
 -- a task more that ended so
-abbrev pub ended : Outcome → Metrics → Metrics
-ended Completed metrics = record metrics { completed = together metrics.completed 1 }
-ended Failed metrics = record metrics { failed = together metrics.failed 1 }
+abbrev pub ended : Outcome → TurnCounts → TurnCounts
+ended Completed turns = record turns { completed = together turns.completed 1 }
+ended Failed turns = record turns { failed = together turns.failed 1 }
 
 -- a workflow task more, answered from a cached run or without one
-abbrev pub found : Bool → Metrics → Metrics
-found true metrics = record metrics { hits = together metrics.hits 1 }
-found false metrics = record metrics { misses = together metrics.misses 1 }
+abbrev pub found : Bool → TurnCounts → TurnCounts
+found true turns = record turns { hits = together turns.hits 1 }
+found false turns = record turns { misses = together turns.misses 1 }
 
 -- a turn more: the task that it answered, if it did
-abbrev pub with_turn : Result Served SourceFault → Metrics → Metrics
-with_turn (Ok (Workflow name hit steps outcome)) metrics = ended outcome (found hit metrics)
-with_turn (Ok (Activity name outcome)) metrics = ended outcome metrics
-with_turn _ metrics = metrics
-
--- a poll more, with a task or without one
-abbrev pub with_poll : Bool → Metrics → Metrics
-with_poll true metrics =
-    record metrics { polls = together metrics.polls 1; empty_polls = together metrics.empty_polls 1 }
-with_poll false metrics = record metrics { polls = together metrics.polls 1 }
-
--- the token of the task that a result or a request names, empty if there is none
-abbrev pub token_of : Data → List ℕ
-token_of named = text_of (field (codes "taskToken") (Some named))
-
--- the result of a poll has no task: there is no token, or an empty one
-abbrev pub has_no_task : Data → Bool
-has_no_task result = length (token_of result) == 0
-
--- the method answers a task; that which answers a query does not
-abbrev pub is_answer : List ℕ → Bool
-is_answer method =
-    starts_with nat_eq method (codes "Respond") && not (bytes_eq method (codes "RespondQueryTaskCompleted"))
-
--- the method completes a task
-abbrev pub completes : List ℕ → Bool
-completes method =
-    bytes_eq method (codes "RespondWorkflowTaskCompleted") || bytes_eq method (codes "RespondActivityTaskCompleted")
-
--- the method answers a workflow task
-abbrev pub answers_workflow_task : List ℕ → Bool
-answers_workflow_task method =
-    bytes_eq method (codes "RespondWorkflowTaskCompleted") || bytes_eq method (codes "RespondWorkflowTaskFailed")
-
--- the method answers an activity task
-abbrev pub answers_activity_task : List ℕ → Bool
-answers_activity_task method =
-    bytes_eq method (codes "RespondActivityTaskCompleted") || bytes_eq method (codes "RespondActivityTaskFailed")
-    || bytes_eq method (codes "RespondActivityTaskCanceled")
-
--- the kind of a task, by whether it is of the one or of the other
-abbrev pub kind_by : (workflow activity : Bool) → Option SlotKind
-kind_by true activity = Some slot.Workflow
-kind_by false true = Some slot.Activity
-kind_by false false = None
-
--- the kind of the task that the method answers, if it answers one
-abbrev pub kind_of : List ℕ → Option SlotKind
-kind_of method = kind_by (answers_workflow_task method) (answers_activity_task method)
+abbrev pub with_turn : Result Served SourceFault → TurnCounts → TurnCounts
+with_turn (Ok (Workflow name hit steps outcome)) turns = ended outcome (found hit turns)
+with_turn (Ok (Activity name outcome)) turns = ended outcome turns
+with_turn _ turns = turns
 
 -- slots by their use: a poll has those that are reserved
 abbrev pub slots_of : SlotCount → TaskSlots
@@ -114,22 +53,37 @@ held_of counts = record {
   activity = slots_of counts.activity;
 }
 
+-- what is shown of these turns, of what the sources have done, and of what the host holds, if it is known
+abbrev pub metrics_of : TurnCounts → SourceCounts → Option Gauges → Metrics
+metrics_of turns sources held = record {
+  completed = turns.completed;
+  failed = turns.failed;
+  held = held;
+  hits = turns.hits;
+  misses = turns.misses;
+  polls = sources.polls;
+  empty_polls = sources.empty_polls;
+  not_found = sources.untaken.not_found;
+  refused = refused_of sources.untaken;
+  workflow_times = sources.workflow_times;
+  activity_times = sources.activity_times;
+}
+
+-- nothing is counted
+abbrev pub nothing : Metrics
+nothing = metrics_of no_turns no_source_counts None
+
 -- what is counted, with what the host counts and holds, if it gives that, and without the answers that were not taken;
 -- of those that were lost no turn tells
-abbrev pub metrics_now : Metrics → UntakenAnswers → Option Counts → Metrics
-metrics_now metrics answers None = record metrics {
-  completed = completed_of answers metrics.completed;
-  failed = metrics.failed - failures_of answers;
-  not_found = answers.not_found;
-  refused = refused_of answers;
-}
-metrics_now metrics answers (Some counts) = record metrics {
-  completed = completed_of answers counts.completed;
-  failed = failed_of answers counts.failed;
-  held = Some (held_of counts);
-  not_found = answers.not_found;
-  refused = refused_of answers;
-}
+abbrev pub metrics_now : TurnCounts → SourceCounts → Option Counts → Metrics
+metrics_now turns sources None = metrics_of (record turns {
+  completed = completed_of sources.untaken turns.completed;
+  failed = turns.failed - failures_of sources.untaken;
+}) sources None
+metrics_now turns sources (Some counts) = metrics_of (record turns {
+  completed = completed_of sources.untaken counts.completed;
+  failed = failed_of sources.untaken counts.failed;
+}) sources (Some (held_of counts))
 
 -- the counts, of which those of tasks are no lower than they were last
 abbrev pub no_lower : (last now : Metrics) → Metrics
@@ -149,19 +103,10 @@ abbrev pub line_as : Format → Metrics → (rate : ℕ) → List ℕ
 line_as formats.Text metrics rate = counts_text metrics rate
 line_as formats.Json metrics rate = json_text metrics rate
 
--- what was counted in all: the totals of the host without the answers that were not taken, the polls of the sources,
--- which runs were cached, and how long tasks took
-abbrev pub end_metrics : Metrics → WorkEnd → Metrics
-end_metrics metrics end = record {
-  completed = completed_of end.untaken end.live.totals.completed;
-  failed = failed_of end.untaken end.live.totals.failed;
-  held = None;
-  hits = metrics.hits;
-  misses = metrics.misses;
-  polls = end.live.tally.polls;
-  empty_polls = end.live.tally.empty;
-  not_found = end.untaken.not_found;
-  refused = refused_of end.untaken;
-  workflow_times = metrics.workflow_times;
-  activity_times = metrics.activity_times;
-}
+-- what was counted in all: the totals of the host without the answers that were not taken, which runs were cached, and
+-- what the sources have done
+abbrev pub end_metrics : TurnCounts → LiveEnd → Metrics
+end_metrics turns end = metrics_of (record turns {
+  completed = completed_of end.sources.untaken end.totals.completed;
+  failed = failed_of end.sources.untaken end.totals.failed;
+}) end.sources None

@@ -1,58 +1,8 @@
--- Answers to tasks that the server did not take, and what counts of tasks are without them.
-use Rattle.std.specs.Prelude.{◌≡◌, ℕ, ◌+◌, ◌-◌, ◌≤◌, ◌<◌, ◌^◌, Bool, true, false, Option, Some, None}
-use Rattle.wh_client.specs.declared.codes.Receipt.{Receipt}
-use Rattle.wh_client.specs.declared.codes.Receipt.TheVariants as receipt
+-- What becomes of the tasks of a host without the answers that the server did not take.
+use Rattle.std.specs.Prelude.{◌≡◌, ◌+◌, ◌≤◌, ◌<◌, ◌^◌}
 use Rattle.wh_host.specs.declared.reply.Totals.{Totals}
-use Rattle.wh_live.specs.Tallies.{together}
-use Rattle.wh_work.specs.declared.counted_calls.CallCount.{CallCount}
-use Rattle.wh_work.specs.declared.untaken.UntakenAnswers.{UntakenAnswers}
-
--- there is none
-abbrev pub none_untaken : UntakenAnswers
-none_untaken = record { not_found = 0; invalid = 0; lost = 0; completions = 0 }
-
--- one more, if the answer completes its task
-abbrev pub with_completion : (completes : Bool) → ℕ → ℕ
-with_completion true completions = together completions 1
-with_completion false completions = completions
-
--- an answer more, which completes its task or does not, and became this
-abbrev pub with_untaken : Receipt → (completes : Bool) → UntakenAnswers → UntakenAnswers
-with_untaken receipt.NotFound completes answers = record answers {
-  not_found = together answers.not_found 1;
-  completions = with_completion completes answers.completions;
-}
-with_untaken receipt.Invalid completes answers = record answers {
-  invalid = together answers.invalid 1;
-  completions = with_completion completes answers.completions;
-}
-with_untaken receipt.Lost completes answers = record answers { lost = together answers.lost 1 }
-with_untaken _ completes answers = answers
-
--- the same of an answer, if the server did not take it
-abbrev pub with_any : Option Receipt → (completes : Bool) → UntakenAnswers → UntakenAnswers
-with_any None completes answers = answers
-with_any (Some receipt) completes answers = with_untaken receipt completes answers
-
--- the answer of a call more, if it is one that was not taken
-abbrev pub with_count : CallCount → UntakenAnswers → UntakenAnswers
-with_count count answers = with_any count.untaken count.completes answers
-
--- those that were refused, or got no response
-abbrev pub refused_of : UntakenAnswers → ℕ
-refused_of answers = together answers.invalid answers.lost
-
--- those that were not lost, and fail their task
-abbrev pub failures_of : UntakenAnswers → ℕ
-failures_of answers = together answers.not_found answers.invalid - answers.completions
-
--- the tasks that are completed, of those that the host counts as completed
-abbrev pub completed_of : UntakenAnswers → (counted : ℕ) → ℕ
-completed_of answers counted = counted - answers.completions
-
--- the tasks that have failed, of those that the host counts as failed
-abbrev pub failed_of : UntakenAnswers → (counted : ℕ) → ℕ
-failed_of answers counted = counted - together (failures_of answers) answers.lost
+use Rattle.wh_notes.specs.Untaken.{completed_of, failed_of, refused_of}
+use Rattle.wh_notes.specs.declared.untaken.UntakenAnswers.{UntakenAnswers}
 
 -- the totals of a host, in which no task counts as completed or failed whose answer was not taken
 abbrev pub settled : Totals → UntakenAnswers → Totals

@@ -1,141 +1,75 @@
-//! What is counted of the turns and the calls of workers.
+//! What is counted of the turns of workers, and what is shown of it.
 
-ghost use Rattle.std.specs.List.{starts_with};
-ghost use Rattle.std.specs.Prelude.{◌≡◌, ◌≤◌, ◌-◌, bytes_eq, codes, max, nat_eq};
-ghost use Rattle.wh_work.specs.Progress.{answered, answers_activity_task, answers_workflow_task, completes, ended};
-ghost use Rattle.wh_work.specs.Progress.{found, held_of, is_answer, kind_of, metrics_now, no_lower, nothing};
-ghost use Rattle.wh_work.specs.Progress.{rate_of, slots_of, with_poll, with_turn};
+ghost use Rattle.std.specs.Prelude.{◌≡◌, ◌≤◌, ◌-◌, max};
+ghost use Rattle.wh_work.specs.Progress.{answered, end_metrics, ended, found, held_of, metrics_now, metrics_of};
+ghost use Rattle.wh_work.specs.Progress.{no_lower, no_turns, nothing, rate_of, slots_of, with_turn};
 
-use crate::task_times::no_times;
-use crate::untaken::UntakenAnswers;
+use wh_crew::LiveEnd;
 use wh_host::{Counts, Outcome};
 use wh_metrics::{Gauges, Metrics, TaskSlots};
+use wh_notes::SourceCounts;
 use wh_poll::{Served, SourceFault};
-use wh_slots::{SlotCount, SlotKind};
+use wh_slots::SlotCount;
 
-/// Nothing is counted.
-pub(crate) fn nothing() -> Metrics
-    ensures { result ≡ nothing }
-{
-    Metrics {
-        completed: 0,
-        failed: 0,
-        held: None,
-        hits: 0,
-        misses: 0,
-        polls: 0,
-        empty_polls: 0,
-        not_found: 0,
-        refused: 0,
-        workflow_times: no_times(),
-        activity_times: no_times(),
-    }
+/// What was counted of the turns of workers. A count stops at 2^64 - 1.
+#[derive(Clone, Copy)]
+pub(crate) struct TurnCounts {
+    /// Tasks that ended as completed.
+    pub(crate) completed: u64,
+    /// Tasks that ended as failed.
+    pub(crate) failed: u64,
+    /// Workflow tasks that were answered from a cached run.
+    pub(crate) hits: u64,
+    /// Workflow tasks that were answered without one.
+    pub(crate) misses: u64,
 }
 
-/// Counts how a task ended.
-fn end(metrics: &mut Metrics, outcome: Outcome)
-    ensures { metrics.new ≡ ended outcome metrics.old }
-{
-    match outcome {
-        Outcome::Completed => metrics.completed = metrics.completed.saturating_add(1),
-        Outcome::Failed => metrics.failed = metrics.failed.saturating_add(1),
-    }
-}
-
-/// Counts whether a workflow task was answered from a cached run.
-fn find(metrics: &mut Metrics, hit: bool)
-    ensures { metrics.new ≡ found hit metrics.old }
-{
-    if hit {
-        metrics.hits = metrics.hits.saturating_add(1);
-    } else {
-        metrics.misses = metrics.misses.saturating_add(1);
-    }
-}
-
-/// Counts a turn.
-pub(crate) fn add_turn(metrics: &mut Metrics, turn: Result<Served, SourceFault>)
-    ensures { metrics.new ≡ with_turn turn metrics.old }
-{
-    match turn {
-        Ok(Served::Workflow { hit, outcome, .. }) => {
-            find(metrics, hit);
-            end(metrics, outcome);
+impl TurnCounts {
+    /// There was no turn.
+    pub(crate) fn none() -> TurnCounts
+        ensures { result ≡ no_turns }
+    {
+        TurnCounts {
+            completed: 0,
+            failed: 0,
+            hits: 0,
+            misses: 0,
         }
-        Ok(Served::Activity { outcome, .. }) => end(metrics, outcome),
-        _ => {}
     }
-}
 
-/// Counts a poll.
-pub(crate) fn add_poll(metrics: &mut Metrics, is_empty: bool)
-    ensures { metrics.new ≡ with_poll is_empty metrics.old }
-{
-    metrics.polls = metrics.polls.saturating_add(1);
-    if is_empty {
-        metrics.empty_polls = metrics.empty_polls.saturating_add(1);
+    /// Counts how a task ended.
+    fn end(&mut self, outcome: Outcome)
+        ensures { self.new ≡ ended outcome self.old }
+    {
+        match outcome {
+            Outcome::Completed => self.completed = self.completed.saturating_add(1),
+            Outcome::Failed => self.failed = self.failed.saturating_add(1),
+        }
     }
-}
 
-/// Whether a call of this method answers a task or a query.
-pub(crate) fn responds(method: &str) -> bool
-    ensures { result ≡ starts_with nat_eq method.now (codes "Respond") }
-{
-    method.starts_with("Respond")
-}
+    /// Counts whether a workflow task was answered from a cached run.
+    fn find(&mut self, hit: bool)
+        ensures { self.new ≡ found hit self.old }
+    {
+        if hit {
+            self.hits = self.hits.saturating_add(1);
+        } else {
+            self.misses = self.misses.saturating_add(1);
+        }
+    }
 
-/// Whether a call of this method answers a query.
-fn answers_query(method: &str) -> bool
-    ensures { result ≡ bytes_eq method.now (codes "RespondQueryTaskCompleted") }
-{
-    method == "RespondQueryTaskCompleted"
-}
-
-/// Whether a call of this method is the answer to a task. That to a query is none.
-pub(crate) fn is_answer(method: &str) -> bool
-    ensures { result ≡ is_answer method.now }
-{
-    responds(method) && !answers_query(method)
-}
-
-/// Whether a call of this method completes a workflow task.
-pub(crate) fn completes_workflow_task(method: &str) -> bool
-    ensures { result ≡ bytes_eq method.now (codes "RespondWorkflowTaskCompleted") }
-{
-    method == "RespondWorkflowTaskCompleted"
-}
-
-/// Whether a call of this method completes a task.
-pub(crate) fn completes(method: &str) -> bool
-    ensures { result ≡ completes method.now }
-{
-    completes_workflow_task(method) || method == "RespondActivityTaskCompleted"
-}
-
-/// Whether a call of this method answers a workflow task.
-fn answers_workflow_task(method: &str) -> bool
-    ensures { result ≡ answers_workflow_task method.now }
-{
-    completes_workflow_task(method) || method == "RespondWorkflowTaskFailed"
-}
-
-/// Whether a call of this method answers an activity task.
-fn answers_activity_task(method: &str) -> bool
-    ensures { result ≡ answers_activity_task method.now }
-{
-    method == "RespondActivityTaskCompleted"
-        || method == "RespondActivityTaskFailed"
-        || method == "RespondActivityTaskCanceled"
-}
-
-/// The kind of the task that a call of this method answers, if it answers one.
-pub(crate) fn kind_of(method: &str) -> Option<SlotKind>
-    ensures { result ≡ kind_of method.now }
-{
-    match (answers_workflow_task(method), answers_activity_task(method)) {
-        (true, _) => Some(SlotKind::Workflow),
-        (false, true) => Some(SlotKind::Activity),
-        (false, false) => None,
+    /// Counts a turn.
+    pub(crate) fn add(&mut self, turn: Result<Served, SourceFault>)
+        ensures { self.new ≡ with_turn turn self.old }
+    {
+        match turn {
+            Ok(Served::Workflow { hit, outcome, .. }) => {
+                self.find(hit);
+                self.end(outcome);
+            }
+            Ok(Served::Activity { outcome, .. }) => self.end(outcome),
+            _ => {}
+        }
     }
 }
 
@@ -162,33 +96,78 @@ fn held_of(counts: Counts) -> Gauges
     }
 }
 
+/// What is shown of these turns, of what the sources have done, and of what the host holds, if that
+/// is known.
+fn metrics_of(turns: TurnCounts, sources: SourceCounts, held: Option<Gauges>) -> Metrics
+    ensures { result ≡ metrics_of turns sources held }
+{
+    Metrics {
+        completed: turns.completed,
+        failed: turns.failed,
+        held,
+        hits: turns.hits,
+        misses: turns.misses,
+        polls: sources.polls,
+        empty_polls: sources.empty_polls,
+        not_found: sources.untaken.not_found,
+        refused: sources.untaken.refused_answers(),
+        workflow_times: sources.workflow_times,
+        activity_times: sources.activity_times,
+    }
+}
+
+/// Nothing is counted, and it is not known what the host holds.
+pub(crate) fn nothing() -> Metrics
+    ensures { result ≡ nothing }
+{
+    metrics_of(TurnCounts::none(), SourceCounts::none(), None)
+}
+
 /// What is counted now, without the answers that the server did not take. The tasks that ended are
 /// those of the host, if it gives them; otherwise those that turns told of, which is none whose
 /// answer was lost.
 pub(crate) fn metrics_now(
-    metrics: Metrics,
-    answers: UntakenAnswers,
+    turns: TurnCounts,
+    sources: SourceCounts,
     counts: Option<Counts>,
 ) -> Metrics
-    ensures { result ≡ metrics_now metrics answers counts }
+    ensures { result ≡ metrics_now turns sources counts }
 {
+    let answers = sources.untaken;
     match counts {
-        Some(counts) => Metrics {
-            completed: answers.completed_tasks(counts.completed),
-            failed: answers.failed_tasks(counts.failed),
-            held: Some(held_of(counts)),
-            not_found: answers.not_found,
-            refused: answers.refused_answers(),
-            ..metrics
-        },
-        None => Metrics {
-            completed: answers.completed_tasks(metrics.completed),
-            failed: metrics.failed.saturating_sub(answers.failures()),
-            not_found: answers.not_found,
-            refused: answers.refused_answers(),
-            ..metrics
-        },
+        Some(counts) => {
+            let tasks = TurnCounts {
+                completed: answers.completed_tasks(counts.completed),
+                failed: answers.failed_tasks(counts.failed),
+                ..turns
+            };
+            metrics_of(tasks, sources, Some(held_of(counts)))
+        }
+        None => {
+            let tasks = TurnCounts {
+                completed: answers.completed_tasks(turns.completed),
+                failed: turns.failed.saturating_sub(answers.failures()),
+                ..turns
+            };
+            metrics_of(tasks, sources, None)
+        }
     }
+}
+
+/// What was counted in all: the totals of the host, without the answers that the server did not
+/// take, these answers, the polls, which runs were cached, and how long tasks took. The host holds
+/// nothing then.
+pub(crate) fn end_metrics(turns: TurnCounts, end: &LiveEnd) -> Metrics
+    ensures { result ≡ end_metrics turns end.now }
+{
+    let answers = end.sources.untaken;
+    let totals = end.totals;
+    let tasks = TurnCounts {
+        completed: answers.completed_tasks(totals.completed),
+        failed: answers.failed_tasks(totals.failed),
+        ..turns
+    };
+    metrics_of(tasks, end.sources, None)
 }
 
 /// The counts, of which those of tasks are no lower than they were last. An answer that the server

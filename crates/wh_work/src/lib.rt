@@ -3,17 +3,17 @@
 #![tactic(auto)]
 
 mod calls;
-mod counted;
-mod counted_calls;
 mod counting;
 pub mod laws;
 mod metrics_file;
 mod metrics_path;
 mod plan;
 mod policies;
+mod policy_faults;
 mod progress;
 mod report;
-mod task_times;
+mod sources;
+mod turns;
 mod untaken;
 mod watch;
 mod workers;
@@ -23,6 +23,6 @@ pub use metrics_file::{FileReplacer, ReplaceFault};
 pub use metrics_path::Obstacle;
 pub use plan::{LivePlan, live_plan};
 pub use policies::{BadPolicies, PlanFault};
-pub use report::{LiveReport, WorkEnd, live_status};
-pub use untaken::UntakenAnswers;
+pub use policy_faults::PolicyFaultText;
+pub use report::{LiveReport, live_status};
 pub use workers::serve_calls;

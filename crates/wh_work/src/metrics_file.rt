@@ -4,16 +4,13 @@ ghost use Rattle.std.specs.Prelude.{◌≡◌, IfOk, None, string_bytes};
 ghost use Rattle.wh_metrics.specs.Exposition.{metrics_text};
 ghost use Rattle.wh_metrics.specs.Labels.{labels_text};
 ghost use Rattle.wh_work.specs.MetricsPaths.{replace_words, unwritten_words};
-ghost use Rattle.wh_work.specs.Progress.{end_metrics};
 
 use crate::metrics_path::{Obstacle, obstacle_at, path_beside};
-use crate::report::WorkEnd;
 use std::alloc::{AllocError, Global};
 use std::fs;
 use std::rt::Files;
 use wh_commands::WorkerNames;
 use wh_console::{FolderFault, Reason, replace_file};
-use wh_crew::LiveEnd;
 use wh_metrics::{Exposition, Metrics, WorkerLabels};
 
 /// The file in which counts are kept, as Prometheus reads them.
@@ -38,29 +35,6 @@ fn exposition_text(
 {
     let exposition = Exposition { labels, metrics };
     format!(in alloc; "{exposition}")
-}
-
-/// What all workers have counted in the end: the totals of the host, without the answers that the
-/// server did not take, these answers, the polls, which runs were cached, and how long tasks took.
-/// The host holds nothing then.
-pub(crate) fn end_metrics(metrics: &Metrics, end: &WorkEnd) -> Metrics
-    ensures { result ≡ end_metrics metrics.now end.now }
-{
-    let WorkEnd { live, untaken } = *end;
-    let LiveEnd { totals, tally } = live;
-    Metrics {
-        completed: untaken.completed_tasks(totals.completed),
-        failed: untaken.failed_tasks(totals.failed),
-        held: None,
-        hits: metrics.hits,
-        misses: metrics.misses,
-        polls: tally.polls,
-        empty_polls: tally.empty,
-        not_found: untaken.not_found,
-        refused: untaken.refused_answers(),
-        workflow_times: metrics.workflow_times,
-        activity_times: metrics.activity_times,
-    }
 }
 
 /// Why a file is not replaced.

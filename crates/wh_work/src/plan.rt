@@ -2,7 +2,7 @@
 
 ghost use Rattle.std.specs.Prelude.{◌≡◌, IfErr, IfOk};
 ghost use Rattle.wh_command_line.specs.Options.{IsWithinWorkLimits};
-ghost use Rattle.wh_host.specs.Machine.{IsConfig};
+ghost use Rattle.wh_slots.specs.Sizes.{IsConfig};
 ghost use Rattle.wh_work.specs.Plans.{IsLivePlan, keeps_runs, live_config, sticky_of};
 ghost use Rattle.wh_work.specs.Policies.{ArePolicies, IsPlanFault};
 

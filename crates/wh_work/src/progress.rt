@@ -1,22 +1,18 @@
 //! How far live tasks have come.
 
-ghost use Rattle.std.specs.Prelude.{◌≡◌, IfSome, Some};
+ghost use Rattle.std.specs.Prelude.{Some};
 ghost use Rattle.wh_work.specs.Progress.{line_as};
 
-use crate::counted::{Counted, Report};
-use crate::counted_calls::TaskFate;
-use crate::counting::{add_poll, add_turn, nothing};
-use crate::metrics_file::{FileReplacer, MetricsFile, end_metrics};
-use crate::report::WorkEnd;
-use crate::task_times::BegunTask;
-use crate::untaken::AnswerCounter;
-use std::alloc::Global;
+use crate::counting::{end_metrics, nothing};
+use crate::metrics_file::{FileReplacer, MetricsFile};
+use crate::sources::SourceCounter;
+use crate::turns::{Report, Turns};
 use std::fmt;
 use std::fmt::{Display, Formatter};
 use std::sync::{Mutex, Wait};
 use std::time::{Clock, Duration};
 use wh_console::Format;
-use wh_events::Text;
+use wh_crew::LiveEnd;
 use wh_host::{Companion, Counts, EndSignal};
 use wh_metrics::{CountsLine, JsonLine, Metrics};
 use wh_poll::{Served, SourceFault};
@@ -50,23 +46,18 @@ impl Display for ReportLine {
     }
 }
 
-/// The time in whole microseconds of a clock that never goes back, 0 if there is none.
-fn microseconds<R: Clock>(rt: &R) -> u64 {
+/// The time in whole milliseconds of a clock that never goes back, 0 if there is none.
+fn milliseconds<R: Clock>(rt: &R) -> u64 {
     match rt.monotonic() {
-        Ok(time) => u64::try_from(time.as_micros()).unwrap_or(u64::MAX),
+        Ok(time) => u64::try_from(time.as_millis()).unwrap_or(u64::MAX),
         Err(_) => 0,
     }
-}
-
-/// The same in milliseconds.
-fn milliseconds<R: Clock>(rt: &R) -> u64 {
-    microseconds(rt) / 1000
 }
 
 /// Reports from time to time what was counted, and what the host holds, and keeps it in a file, as
 /// far as either is asked for.
 #[derive(Drop)]
-pub(crate) struct ProgressReporter<'a, R> {
+pub(crate) struct ProgressReporter<'a, 's, R> {
     rt: &'a R,
     /// What the program is called.
     name: &'a str,
@@ -76,24 +67,23 @@ pub(crate) struct ProgressReporter<'a, R> {
     lines: Option<Format>,
     /// Where the counts are kept, if they are.
     file: Option<MetricsFile<'a>>,
-    /// The answers that the server did not take.
-    answers: &'a AnswerCounter,
-    counted: Mutex<Counted>,
+    /// What the sources have done.
+    sources: &'s SourceCounter<'a, R>,
+    turns: Mutex<Turns>,
 }
 
-impl<'a, R: Wait + Clock> ProgressReporter<'a, R> {
+impl<'a, 's, R: Wait + Clock> ProgressReporter<'a, 's, R> {
     /// One that begins now, for a program of a name. It reports in a form after so many seconds
-    /// each, if it does, and keeps the counts in the file, if there is one. The answers that the
-    /// server did not take are counted beside it.
+    /// each, if it does, and keeps the counts in the file, if there is one. What the sources do is
+    /// counted beside it.
     pub(crate) fn new(
         rt: &'a R,
-        alloc: Global,
         name: &'a str,
         seconds: Option<u64>,
         format: Format,
         file: Option<MetricsFile<'a>>,
-        answers: &'a AnswerCounter,
-    ) -> ProgressReporter<'a, R> {
+        sources: &'s SourceCounter<'a, R>,
+    ) -> ProgressReporter<'a, 's, R> {
         ProgressReporter {
             rt,
             name,
@@ -104,67 +94,39 @@ impl<'a, R: Wait + Clock> ProgressReporter<'a, R> {
                 None
             },
             file,
-            answers,
-            counted: Mutex::new(Counted::new(alloc, milliseconds(rt))),
+            sources,
+            turns: Mutex::new(Turns::new(milliseconds(rt))),
         }
     }
 }
 
-impl<R: Wait + Clock> ProgressReporter<'_, R> {
-    /// Notes that a poll has given the task of this token now. If there is no memory to note it, it
-    /// is not timed.
-    pub(crate) fn begin_task(&self, alloc: Global, token: &str) {
-        let since = microseconds(self.rt);
-        if let Ok(token) = String::from_str(alloc, token) {
-            let token = Text::new(token);
-            self.counted.lock(self.rt).note(BegunTask { token, since });
-        }
-    }
-
-    /// Ends a task now, as [`Counted::end_task`] says.
-    pub(crate) fn end_task(&self, end: TaskFate, task: BegunTask) {
-        let now = microseconds(self.rt);
-        self.counted.lock(self.rt).end_task(end, task, now);
-    }
-
-    /// What is to be reported now. No turn is counted while the answers are read, so each answer
-    /// whose turn counts is among them.
+impl<R: Wait + Clock> ProgressReporter<'_, '_, R> {
+    /// What is to be reported now. No turn is counted while it is read what the sources have done,
+    /// so each answer whose turn counts is part of that.
     fn report_now(&self, counts: Option<Counts>) -> Report {
         let now = milliseconds(self.rt);
-        let mut counted = self.counted.lock(self.rt);
-        let answers = self.answers.now(self.rt);
-        counted.turns.report(now, answers, counts)
+        let mut turns = self.turns.lock(self.rt);
+        let sources = self.sources.now();
+        turns.report(now, sources, counts)
     }
 }
 
-impl<R: Wait> ProgressReporter<'_, R> {
-    /// The task of this token, if one is noted, as [`BegunTasks::take`] says.
-    pub(crate) fn take_task(&self, token: &str) -> Option<BegunTask>
-        ensures { IfSome result (λ task. task.token ≡ token.now) }
-    {
-        self.counted.lock(self.rt).begun.take(token)
-    }
-
+impl<R: Wait> ProgressReporter<'_, '_, R> {
     /// Counts a turn.
     pub(crate) fn count(&self, turn: Result<Served, SourceFault>) {
-        add_turn(&mut self.counted.lock(self.rt).turns.metrics, turn);
-    }
-
-    /// Counts a poll.
-    pub(crate) fn count_poll(&self, is_empty: bool) {
-        add_poll(&mut self.counted.lock(self.rt).turns.metrics, is_empty);
+        self.turns.lock(self.rt).counts.add(turn);
     }
 
     /// Notes whether counts could not be kept, and says whether that is new.
     fn note(&self, unkept: bool) -> bool {
-        let mut counted = self.counted.lock(self.rt);
-        let before = counted.turns.unkept;
-        counted.turns.unkept = unkept;
+        let mut turns = self.turns.lock(self.rt);
+        let before = turns.unkept;
+        turns.unkept = unkept;
         unkept && !before
     }
 }
 
-impl<R: Wait + Eprint + FileReplacer + AllocGlobal> ProgressReporter<'_, R> {
+impl<R: Wait + Eprint + FileReplacer + AllocGlobal> ProgressReporter<'_, '_, R> {
     /// Keeps counts in the file, if there is one. That it can't be written is reported once, until
     /// it can be written again.
     fn keep(&self, metrics: Metrics) {
@@ -186,9 +148,9 @@ impl<R: Wait + Eprint + FileReplacer + AllocGlobal> ProgressReporter<'_, R> {
     }
 
     /// Keeps what was counted in all.
-    pub(crate) fn end(&self, end: &WorkEnd) {
-        let turns = self.counted.lock(self.rt).turns;
-        self.keep(end_metrics(&turns.metrics, end));
+    pub(crate) fn end(&self, end: &LiveEnd) {
+        let counts = self.turns.lock(self.rt).counts;
+        self.keep(end_metrics(counts, end));
     }
 
     /// Writes a line on standard error.
@@ -202,7 +164,8 @@ impl<R: Wait + Eprint + FileReplacer + AllocGlobal> ProgressReporter<'_, R> {
     }
 }
 
-impl<R: Wait + Clock + Eprint + FileReplacer + AllocGlobal> Companion for ProgressReporter<'_, R> {
+impl<R: Wait + Clock + Eprint + FileReplacer + AllocGlobal> Companion
+    for ProgressReporter<'_, '_, R> {
     fn wait(&self, signal: &EndSignal) -> bool {
         signal.wait(self.rt, self.period)
     }

@@ -6,9 +6,9 @@ use wh_poll::{Observer, Served, SourceFault};
 
 /// Counts the tasks of its worker, if they are counted.
 #[derive(Drop)]
-pub(crate) struct Watch<'a, R>(pub(crate) Option<&'a ProgressReporter<'a, R>>);
+pub(crate) struct Watch<'p, 'a, 's, R>(pub(crate) Option<&'p ProgressReporter<'a, 's, R>>);
 
-impl<R: Wait> Observer for Watch<'_, R> {
+impl<R: Wait> Observer for Watch<'_, '_, '_, R> {
     ghost use Rattle.std.specs.Prelude.{◌≡◌};
 
     ghost hears = { λ old turn new. new ≡ old };

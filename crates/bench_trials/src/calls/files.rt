@@ -5,7 +5,7 @@ use std::alloc::Global;
 use std::io::Print;
 use std::thread::Threads;
 use test_support::json;
-use wh_console::InputFault;
+use wh_console::{InputFault, NO_OPTIONS};
 use wh_json::read_events;
 use wh_report::{Record, check_all};
 use wh_sample_workflows::Nap;
@@ -52,7 +52,7 @@ pub(crate) fn check<R: Print + Threads + Sync>(rt: &R, alloc: Global, name: &str
         rt,
         alloc,
         files,
-        false,
+        NO_OPTIONS,
         |file: (String, Vec<u8>)| -> Result<(String, Vec<u8>), InputFault> { Ok(file) },
     );
     match checked {

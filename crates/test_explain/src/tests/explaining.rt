@@ -5,8 +5,7 @@ use std::process::Abort;
 use test_support::{Scripted, bytes_of, row, same, with_status};
 use wh_console::Format;
 use wh_events::EventNo;
-use wh_explain::explain;
-use wh_explain_report::{explain_command, line_status, write_explanation};
+use wh_explain_report::{explain_file, line_status};
 use wh_sample_workflows::{All, Asker, Nap};
 use wh_view_report::Selection;
 use wh_workflow::Workflow;
@@ -334,6 +333,12 @@ status 1
 start:Nope S T C
 no code for the workflow type Nope
 x.json: fault, task at 1: UnknownWorkflow
+Nope: 4 events, 1 tasks completed, 0 things
+workflow id not recorded, run id not recorded, Task Queue not recorded, no parent
+Running
+  told WorkflowExecutionStarted Nope (event 1) 2024-05-01T10:00:01Z
+task 1: WorkflowTaskCompleted (event 4) 2024-05-01T10:00:04Z
+running; nothing that it started is open
 status 1
 
 nap/5 timer_fired:3
@@ -508,16 +513,6 @@ task at 20
 x.json: ok, 5 tasks
 status 0";
 
-/// The explanation of a history whose type is not registered: the recorded events follow the line
-/// of the file.
-const NOPE: &str = "\
-no code for the workflow type Nope
-x.json: fault, task at 1: UnknownWorkflow
-Nope: 4 events, 1 tasks completed, 0 things
-  told WorkflowExecutionStarted Nope (event 1) 2024-05-01T10:00:01Z
-task 1: WorkflowTaskCompleted (event 4) 2024-05-01T10:00:04Z
-status 1";
-
 /// That nap.
 const SIGNALLED: &str =
     "nap/5 signal:a S T C signal:a S T C signal:a S T C timer_fired:5 S T C completed";
@@ -543,10 +538,17 @@ fn explanation<W: Workflow>(
 ) -> String {
     let bytes = bytes_of(alloc, history).expect(rt, history);
     let name = String::from_str(alloc, "x.json").expect(rt, "memory");
-    let explanation = explain::<W>(alloc, name, bytes.as_slice()).expect(rt, "memory");
     let mut out = Vec::new(alloc);
-    write_explanation(&explanation, selection, &mut out).expect(rt, "written");
-    with_status(out, line_status(&explanation.line)).expect(rt, "a text")
+    let line = explain_file::<W, _>(
+        alloc,
+        name,
+        bytes.as_slice(),
+        selection,
+        Format::Text,
+        &mut out,
+    );
+    let status = line_status(&line.expect(rt, "explained"));
+    with_status(out, status).expect(rt, "a text")
 }
 
 /// Explains the history that each block begins with, and compares the text with the block's.
@@ -591,24 +593,6 @@ fn explains_what_is_selected(rt: HostRuntime) {
         count_lines(all.as_str(), "  told Signal a (event 14)") == 1,
         "{all}"
     );
-}
-
-#[test]
-fn explains_unknown_types(rt: HostRuntime) {
-    let alloc = rt.alloc();
-    let bytes = bytes_of(alloc, "start:Nope S T C").expect(&rt, "a history");
-    let name = String::from_str(alloc, "x.json").expect(&rt, "memory");
-    let mut out = Vec::new(alloc);
-    let status = explain_command::<All, _>(
-        alloc,
-        name,
-        bytes.as_slice(),
-        None,
-        Format::Text,
-        &mut out,
-    );
-    let text = with_status(out, status.expect(&rt, "refused")).expect(&rt, "a text");
-    same(alloc, text.as_str(), NOPE).expect(&rt, "a type without code");
 }
 
 /// How often a text has a line.

@@ -3,7 +3,8 @@
 use std::alloc::Global;
 use std::process::Abort;
 use test_support::{bytes_of, row};
-use wh_phrases::{OtherValue, OtherValueText, check_values};
+use wh_phrases::{OtherValue, OtherValueText};
+use wh_report::check_values;
 use wh_sample_workflows::All;
 
 /// Histories, each with the values that differ.

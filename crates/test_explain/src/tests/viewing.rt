@@ -12,63 +12,74 @@ use wh_view_report::{Selection, write_json_view, write_view};
 const HISTORIES: &str = "\
 racer
 Racer: 21 events, 4 tasks completed, 3 things
+workflow id not recorded, run id not recorded, Task Queue not recorded, no parent
+Completed (event 21) 2024-05-01T10:00:21Z, after 20 s
   told WorkflowExecutionStarted Racer (event 1) 2024-05-01T10:00:01Z
 task 1: WorkflowTaskCompleted (event 4) 2024-05-01T10:00:04Z
   gives ActivityTaskScheduled 1 race (event 5) 2024-05-01T10:00:05Z, to be canceled (event 11), ended (event 12)
   gives TimerStarted t (event 6) 2024-05-01T10:00:06Z, ended (event 7)
-  told TimerFired t (event 7) 2024-05-01T10:00:07Z, opened (event 6)
+  told TimerFired t (event 7) 2024-05-01T10:00:07Z, opened (event 6), took 1.0 s
 task 2: WorkflowTaskCompleted (event 10) 2024-05-01T10:00:10Z
   gives ActivityTaskCancelRequested 1 race (event 11) 2024-05-01T10:00:11Z, opened (event 5)
-  told ActivityTaskCanceled 1 race (event 12) 2024-05-01T10:00:12Z, opened (event 5)
+  told ActivityTaskCanceled 1 race (event 12) 2024-05-01T10:00:12Z, opened (event 5), took 7.0 s
   gives TimerStarted u (event 13) 2024-05-01T10:00:13Z, ended (event 17)
 task 3: WorkflowTaskCompleted (event 16) 2024-05-01T10:00:16Z
-  told TimerFired u (event 17) 2024-05-01T10:00:17Z, opened (event 13)
+  told TimerFired u (event 17) 2024-05-01T10:00:17Z, opened (event 13), took 4.0 s
 task 4: WorkflowTaskCompleted (event 20) 2024-05-01T10:00:20Z
   gives WorkflowExecutionCompleted (event 21) 2024-05-01T10:00:21Z
 
 late
 Racer: 11 events, 1 tasks completed, 2 things
+workflow id not recorded, run id not recorded, Task Queue not recorded, no parent
+Running
   told WorkflowExecutionStarted Racer (event 1) 2024-05-01T10:00:01Z
 task 1: WorkflowTaskCompleted (event 4) 2024-05-01T10:00:04Z
   gives ActivityTaskScheduled 1 race (event 5) 2024-05-01T10:00:05Z, started (event 7), ended (event 9)
   gives TimerStarted t (event 6) 2024-05-01T10:00:06Z, ended (event 8)
-  has ActivityTaskStarted 1 race (event 7) 2024-05-01T10:00:07Z, opened (event 5)
-  told TimerFired t (event 8) 2024-05-01T10:00:08Z, opened (event 6)
-  told ActivityTaskCompleted 1 race (event 9) 2024-05-01T10:00:09Z, opened (event 5)
+  has ActivityTaskStarted 1 race (event 7) 2024-05-01T10:00:07Z, opened (event 5), waited 2.0 s
+  told TimerFired t (event 8) 2024-05-01T10:00:08Z, opened (event 6), took 2.0 s
+  told ActivityTaskCompleted 1 race (event 9) 2024-05-01T10:00:09Z, opened (event 5), took 2.0 s
+running; waits for a workflow task (event 10) since 2024-05-01T10:00:10Z, started (event 11) 2024-05-01T10:00:11Z
 
 start:X S T C unknown timer_fired:9 marker:LocalActivity child:kid:Nap cancel_child:kid external:other:go
 X: 10 events, 1 tasks completed, 4 things
-not supported: EVENT_TYPE_SOMETHING_NEW, 1 events, first (event 5)
-marker not supported: MarkerRecorded LocalActivity, 1 events, first (event 7)
+workflow id not recorded, run id not recorded, Task Queue not recorded, no parent
+Running
   told WorkflowExecutionStarted X (event 1) 2024-05-01T10:00:01Z
 task 1: WorkflowTaskCompleted (event 4) 2024-05-01T10:00:04Z
-  has EVENT_TYPE_SOMETHING_NEW (event 5) 2024-05-01T10:00:05Z, not supported
+  has EVENT_TYPE_SOMETHING_NEW (event 5) 2024-05-01T10:00:05Z
   told TimerFired (event 6) 2024-05-01T10:00:06Z, opened by no event
-  gives MarkerRecorded LocalActivity (event 7) 2024-05-01T10:00:07Z, marker not supported
+  gives MarkerRecorded LocalActivity (event 7) 2024-05-01T10:00:07Z
   gives StartChildWorkflowExecutionInitiated kid Nap (event 8) 2024-05-01T10:00:08Z, not ended
   gives RequestCancelExternalWorkflowExecutionInitiated kid (event 9) 2024-05-01T10:00:09Z, not ended
   gives SignalExternalWorkflowExecutionInitiated other go (event 10) 2024-05-01T10:00:10Z, not ended
+can't be replayed here: EVENT_TYPE_SOMETHING_NEW, 1 events, first (event 5)
+can't be replayed here: MarkerRecorded LocalActivity, 1 events, first (event 7)
+running; waits for child kid Nap (event 8) since 2024-05-01T10:00:08Z, not started; waits for cancel request to kid (event 9) since 2024-05-01T10:00:09Z; waits for signal request to other go (event 10) since 2024-05-01T10:00:10Z
 
 start:X S T C unknown marker:LocalActivity unknown marker:SideEffect marker:LocalActivity ignored unknown
 X: 11 events, 1 tasks completed, 3 things
-not supported: EVENT_TYPE_SOMETHING_NEW, 3 events, first (event 5)
-marker not supported: MarkerRecorded LocalActivity, 2 events, first (event 6)
-marker not supported: MarkerRecorded SideEffect, 1 events, first (event 8)
+workflow id not recorded, run id not recorded, Task Queue not recorded, no parent
+Running
   told WorkflowExecutionStarted X (event 1) 2024-05-01T10:00:01Z
 task 1: WorkflowTaskCompleted (event 4) 2024-05-01T10:00:04Z
-  has EVENT_TYPE_SOMETHING_NEW (event 5) 2024-05-01T10:00:05Z, not supported
-  gives MarkerRecorded LocalActivity (event 6) 2024-05-01T10:00:06Z, marker not supported
-  has EVENT_TYPE_SOMETHING_NEW (event 7) 2024-05-01T10:00:07Z, not supported
-  gives MarkerRecorded SideEffect (event 8) 2024-05-01T10:00:08Z, marker not supported
-  gives MarkerRecorded LocalActivity (event 9) 2024-05-01T10:00:09Z, marker not supported
+  has EVENT_TYPE_SOMETHING_NEW (event 5) 2024-05-01T10:00:05Z
+  gives MarkerRecorded LocalActivity (event 6) 2024-05-01T10:00:06Z
+  has EVENT_TYPE_SOMETHING_NEW (event 7) 2024-05-01T10:00:07Z
+  gives MarkerRecorded SideEffect (event 8) 2024-05-01T10:00:08Z
+  gives MarkerRecorded LocalActivity (event 9) 2024-05-01T10:00:09Z
   has EVENT_TYPE_SOMETHING_NEW (event 10) 2024-05-01T10:00:10Z
-  has EVENT_TYPE_SOMETHING_NEW (event 11) 2024-05-01T10:00:11Z, not supported";
+  has EVENT_TYPE_SOMETHING_NEW (event 11) 2024-05-01T10:00:11Z
+can't be replayed here: EVENT_TYPE_SOMETHING_NEW, 3 events, first (event 5)
+can't be replayed here: MarkerRecorded LocalActivity, 2 events, first (event 6)
+can't be replayed here: MarkerRecorded SideEffect, 1 events, first (event 8)
+running; nothing that it started is open";
 
 /// A history in which kinds of events are not supported.
 const UNSUPPORTED: &str = "start:X S T C unknown marker:Side\\\\Effect unknown marker:Local";
 
 /// Its first objects, whichever tasks are selected.
-const UNSUPPORTED_JSON: &str = r#"{"events":8,"tasks":1,"things":2}
+const UNSUPPORTED_JSON: &str = r#"{"events":8,"tasks":1,"things":2,"run":{"status":"Running"}}
 {"mark":"not supported","type":"EVENT_TYPE_SOMETHING_NEW","events":2,"place":5}
 {"mark":"marker not supported","type":"MarkerRecorded","marker":"Side\\Effect","events":1,"place":6}
 {"mark":"marker not supported","type":"MarkerRecorded","marker":"Local","events":1,"place":8}
@@ -77,7 +88,9 @@ const UNSUPPORTED_JSON: &str = r#"{"events":8,"tasks":1,"things":2}
 /// The last task of `racer`.
 const LAST: &str = "\
 Racer: 21 events, 4 tasks completed, 3 things
-  told TimerFired u (event 17) 2024-05-01T10:00:17Z, opened (event 13)
+workflow id not recorded, run id not recorded, Task Queue not recorded, no parent
+Completed (event 21) 2024-05-01T10:00:21Z, after 20 s
+  told TimerFired u (event 17) 2024-05-01T10:00:17Z, opened (event 13), took 4.0 s
 task 4: WorkflowTaskCompleted (event 20) 2024-05-01T10:00:20Z
   gives WorkflowExecutionCompleted (event 21) 2024-05-01T10:00:21Z
 16 events of other tasks are left out
@@ -86,13 +99,15 @@ task 4: WorkflowTaskCompleted (event 20) 2024-05-01T10:00:20Z
 /// The tasks of `racer` around that of its last event.
 const AROUND: &str = "\
 Racer: 21 events, 4 tasks completed, 3 things
-  told TimerFired t (event 7) 2024-05-01T10:00:07Z, opened (event 6)
+workflow id not recorded, run id not recorded, Task Queue not recorded, no parent
+Completed (event 21) 2024-05-01T10:00:21Z, after 20 s
+  told TimerFired t (event 7) 2024-05-01T10:00:07Z, opened (event 6), took 1.0 s
 task 2: WorkflowTaskCompleted (event 10) 2024-05-01T10:00:10Z
   gives ActivityTaskCancelRequested 1 race (event 11) 2024-05-01T10:00:11Z, opened (event 5)
-  told ActivityTaskCanceled 1 race (event 12) 2024-05-01T10:00:12Z, opened (event 5)
+  told ActivityTaskCanceled 1 race (event 12) 2024-05-01T10:00:12Z, opened (event 5), took 7.0 s
   gives TimerStarted u (event 13) 2024-05-01T10:00:13Z, ended (event 17)
 task 3: WorkflowTaskCompleted (event 16) 2024-05-01T10:00:16Z
-  told TimerFired u (event 17) 2024-05-01T10:00:17Z, opened (event 13)
+  told TimerFired u (event 17) 2024-05-01T10:00:17Z, opened (event 13), took 4.0 s
 task 4: WorkflowTaskCompleted (event 20) 2024-05-01T10:00:20Z
   gives WorkflowExecutionCompleted (event 21) 2024-05-01T10:00:21Z
 6 events of other tasks are left out
@@ -110,25 +125,29 @@ const AMISS: &str = r#"{"events":[
 
 /// Its text.
 const AMISS_TEXT: &str = r#"Pay: 6 events, 1 tasks completed, 2 things
+workflow id not recorded, run id not recorded, Task Queue not recorded, no parent
+Running
   told WorkflowExecutionStarted Pay (event 1) 2024-05-01T10:00:01Z
       {"a":1}
       {"data":"/w=="}
 task 1: WorkflowTaskCompleted (event 4), out of order
-  gives TimerStarted nap (event 5) t, not ended, 60s, bad time
+  gives TimerStarted nap (event 5) t, not ended, 1 min, bad time
   told ActivityTaskFailed (place 4), attempt 2, because card?refused, bad number
   told WorkflowExecutionSignaled go (event 6) 2024-05-01T10:00:06Z, shorthand payload
       1
       "x"
   has  (place 6), bad number
+running; waits for timer nap (event 5) since t
 "#;
 
 /// The last task of `late` as JSON.
-const LATE_JSON: &str = r#"{"events":11,"tasks":1,"things":2}
-{"place":7,"event":7,"task":2,"is":"other","thing":{"kind":"activity","opened":5,"started":7,"ended":9},"recorded":{"activityTaskStartedEventAttributes":{"scheduledEventId":"5"},"eventId":"7","eventTime":"2024-05-01T10:00:07Z","eventType":"ActivityTaskStarted"}}
-{"place":8,"event":8,"task":2,"is":"told","thing":{"kind":"timer","opened":6,"ended":8},"recorded":{"eventId":"8","eventTime":"2024-05-01T10:00:08Z","eventType":"TimerFired","timerFiredEventAttributes":{"startedEventId":"6"}}}
-{"place":9,"event":9,"task":2,"is":"told","thing":{"kind":"activity","opened":5,"started":7,"ended":9},"recorded":{"activityTaskCompletedEventAttributes":{"scheduledEventId":"5"},"eventId":"9","eventTime":"2024-05-01T10:00:09Z","eventType":"ActivityTaskCompleted"}}
+const LATE_JSON: &str = r#"{"events":11,"tasks":1,"things":2,"run":{"status":"Running"}}
+{"place":7,"event":7,"task":2,"is":"other","thing":{"kind":"activity","opened":5,"started":7,"ended":9,"waited":2.000,"took":2.000},"recorded":{"activityTaskStartedEventAttributes":{"scheduledEventId":"5"},"eventId":"7","eventTime":"2024-05-01T10:00:07Z","eventType":"ActivityTaskStarted"}}
+{"place":8,"event":8,"task":2,"is":"told","thing":{"kind":"timer","opened":6,"ended":8,"took":2.000},"recorded":{"eventId":"8","eventTime":"2024-05-01T10:00:08Z","eventType":"TimerFired","timerFiredEventAttributes":{"startedEventId":"6"}}}
+{"place":9,"event":9,"task":2,"is":"told","thing":{"kind":"activity","opened":5,"started":7,"ended":9,"waited":2.000,"took":2.000},"recorded":{"activityTaskCompletedEventAttributes":{"scheduledEventId":"5"},"eventId":"9","eventTime":"2024-05-01T10:00:09Z","eventType":"ActivityTaskCompleted"}}
 {"place":10,"event":10,"task":2,"is":"other","recorded":{"eventId":"10","eventTime":"2024-05-01T10:00:10Z","eventType":"WorkflowTaskScheduled"}}
 {"place":11,"event":11,"task":2,"is":"other","recorded":{"eventId":"11","eventTime":"2024-05-01T10:00:11Z","eventType":"WorkflowTaskStarted"}}
+{"waits":"workflowTask","opened":10,"started":11,"since":"2024-05-01T10:00:10Z"}
 "#;
 
 /// An event up to the name of its signal.
@@ -138,7 +157,10 @@ const LONG: &str =
 /// Its text.
 const LONG_TEXT: &str = "\
 : 1 events, 0 tasks completed, 1 things
+workflow id not recorded, run id not recorded, Task Queue not recorded, no parent
+Running
   told WorkflowExecutionSignaled aaaaaaaaaaaaaaaaaaaaaaaaaaaaaaaaaaaaaaaaaaaaaaaaaaaaaaaaaaaaaaaaaaaaaaaaaaaaaaaa.. (70000 characters) (event 7) 2024-05-01T10:00:07Z
+running; nothing that it started is open
 ";
 
 /// The text of a view.

@@ -2,6 +2,7 @@
 
 ghost use Rattle.std.specs.Prelude.{◌≡◌};
 
+use crate::faulty_source::FaultySource;
 use crate::tests::fixtures::{Echo, Notebook, NotedSource, Workflows, script};
 use crate::tests::host::{closed, next_name, open, sizes};
 use std::alloc::Global;
@@ -14,7 +15,6 @@ use wh_host::{Config, Counts, Host, Outcome, Totals};
 use wh_ledger::Seat;
 use wh_poll::{SourceFault, Worker, serve_one, work};
 use wh_replay::Run;
-use wh_samples::FaultySource;
 use wh_slots::{Held, Permit, SlotKind, TaskName};
 
 /// The setting of a host and its source: the sizes, which call of the source fails, its script and

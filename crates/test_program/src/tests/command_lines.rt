@@ -472,7 +472,7 @@ fn names_bad_values(rt: HostRuntime) {
 
 #[test]
 fn calls_the_program_by_its_name(rt: HostRuntime) {
-    says(&rt, rt.alloc(), "shop", "--version", "shop 0.1.0\n");
+    says(&rt, rt.alloc(), "shop", "--version", "shop 0.2.0\n");
     says(&rt, rt.alloc(), "shop", "", NO_COMMAND);
     says(&rt, rt.alloc(), "shop", "explain", NO_FILE);
 }

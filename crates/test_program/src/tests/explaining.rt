@@ -4,7 +4,7 @@ use std::alloc::Global;
 use std::process::Abort;
 use test_support::{bytes_of, same, with_status};
 use wh_console::Format;
-use wh_explain_report::explain_command;
+use wh_explain_report::{explain_file, line_status};
 use wh_sample_workflows::All;
 
 /// Histories, each with the lines of JSON below it.
@@ -97,7 +97,7 @@ status 1
 start:Nope S T C
 {'unknownWorkflow':'Nope'}
 {'file':'x.json','verdict':'fault','task':1,'fault':'task at 1: UnknownWorkflow'}
-{'events':4,'tasks':1,'things':0}
+{'events':4,'tasks':1,'things':0,'run':{'status':'Running'}}
 {'place':1,'event':1,'task':1,'is':'told','recorded':{'eventId':'1','eventTime':'2024-05-01T10:00:01Z','eventType':'WorkflowExecutionStarted','workflowExecutionStartedEventAttributes':{'workflowType':{'name':'Nope'}}}}
 {'place':2,'event':2,'task':1,'is':'other','recorded':{'eventId':'2','eventTime':'2024-05-01T10:00:02Z','eventType':'WorkflowTaskScheduled'}}
 {'place':3,'event':3,'task':1,'is':'other','recorded':{'eventId':'3','eventTime':'2024-05-01T10:00:03Z','eventType':'WorkflowTaskStarted'}}
@@ -118,15 +118,9 @@ fn explanation(rt: &impl Abort, alloc: Global, history: &'static str) -> String 
     let bytes = bytes_of(alloc, history).expect(rt, history);
     let name = String::from_str(alloc, "x.json").expect(rt, "memory");
     let mut out = Vec::new(alloc);
-    let status = explain_command::<All, _>(
-        alloc,
-        name,
-        bytes.as_slice(),
-        None,
-        Format::Json,
-        &mut out,
-    );
-    with_status(out, status.expect(rt, "refused")).expect(rt, "a text")
+    let line = explain_file::<All, _>(alloc, name, bytes.as_slice(), None, Format::Json, &mut out);
+    let status = line_status(&line.expect(rt, "explained"));
+    with_status(out, status).expect(rt, "a text")
 }
 
 /// The lines of JSON have `'` for `"` in the blocks.

@@ -4,7 +4,8 @@ use std::alloc::Global;
 use std::process::Abort;
 use std::thread::Threads;
 use test_support::{bytes_of, push, repeated, row, same, with_status};
-use wh_report::{CommandFault, Format, replay_command};
+use wh_console::NO_OPTIONS;
+use wh_report::{CommandFault, replay_command};
 use wh_sample_workflows::All;
 
 /// Files, each by its name and its history, with the lines of their report and the status.
@@ -54,7 +55,7 @@ fn replayed<R: Threads + Sync + Abort>(
     files: Vec<(String, Vec<u8>)>,
 ) -> String {
     let mut out = Vec::new(alloc);
-    let status = replay_command::<All, _, _>(rt, alloc, files, Format::Text, &mut out);
+    let status = replay_command::<All, _, _>(rt, alloc, files, NO_OPTIONS, &mut out);
     with_status(out, status.expect(rt, "refused")).expect(rt, "a text")
 }
 
@@ -101,6 +102,6 @@ fn failed_output_is_told(rt: HostRuntime) {
     let mut room = [0; 5];
     let mut writer = room.as_mut_slice();
     let files = Vec::new(rt.alloc());
-    let answer = replay_command::<All, _, _>(&rt, rt.alloc(), files, Format::Text, &mut writer);
+    let answer = replay_command::<All, _, _>(&rt, rt.alloc(), files, NO_OPTIONS, &mut writer);
     assert!(rt; matches!(answer, Err(CommandFault::Output)));
 }

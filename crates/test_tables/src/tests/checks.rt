@@ -4,9 +4,12 @@ use std::alloc::Global;
 use std::test::Fail;
 use test_support::{Unlike, same, with_status};
 use wh_console::Format;
-use wh_events::{Items, Text};
-use wh_table_check::{NoMore, TableFile, check_command, status_of};
-use wh_table_picture::picture_command;
+use wh_events::{Items, OutOfMemory, Text};
+use wh_promise_check::promise_findings;
+use wh_table_check::{TableCheck, status_of, table_check, write_checked};
+use wh_table_commands::TableFile;
+use wh_table_picture::{drawing_of, write_page};
+use wh_table_text::{TableReading, table_reading};
 use wh_table_trial::{status_of as trial_status, try_command};
 
 /// The output is this text, followed by the status.
@@ -74,6 +77,24 @@ fn file_of(alloc: Global, rows: &str) -> Result<TableFile, Fail> {
     })
 }
 
+/// What one reading of a file finds, and the result of its check.
+fn check_file(alloc: Global, file: &TableFile) -> Result<(TableReading, TableCheck), OutOfMemory> {
+    let reading = table_reading(alloc, file.bytes.get())?;
+    let promises = promise_findings(alloc, &reading)?;
+    let own = table_check(alloc, &file.name, &reading, promises)?;
+    Ok((reading, own))
+}
+
+/// The results of the checks of files.
+fn check_files(alloc: Global, files: &[TableFile]) -> Result<Vec<TableCheck>, OutOfMemory> {
+    let mut all = Vec::new(alloc);
+    for file in files {
+        let (_, own) = check_file(alloc, file)?;
+        all.push(own)?;
+    }
+    Ok(all)
+}
+
 #[test]
 fn all_faults_and_warnings_are_written(rt: HostRuntime) -> Result<(), Fail> {
     let alloc = rt.alloc();
@@ -81,7 +102,8 @@ fn all_faults_and_warnings_are_written(rt: HostRuntime) -> Result<(), Fail> {
         let mut files = Vec::new(alloc);
         files.push(file_of(alloc, rows)?)?;
         let mut text = Vec::new(alloc);
-        let found = check_command::<NoMore, _>(alloc, files.as_slice(), Format::Text, &mut text)?;
+        let found = check_files(alloc, files.as_slice())?;
+        write_checked(alloc, found.as_slice(), Format::Text, &mut text)?;
         is_written(alloc, text, status_of(found.as_slice()), wanted)?;
     }
     Ok(())
@@ -104,7 +126,8 @@ fn files_are_objects(rt: HostRuntime) -> Result<(), Fail> {
     files.push(file_of(alloc, r#"["a","begin"],["a","end"]"#)?)?;
     files.push(file_of(alloc, "]")?)?;
     let mut text = Vec::new(alloc);
-    let found = check_command::<NoMore, _>(alloc, files.as_slice(), Format::Json, &mut text)?;
+    let found = check_files(alloc, files.as_slice())?;
+    write_checked(alloc, found.as_slice(), Format::Json, &mut text)?;
     is_written(alloc, text, status_of(found.as_slice()), JSON)
 }
 
@@ -172,8 +195,9 @@ fn a_page_shows_what_a_table_holds_as_text(rt: HostRuntime) -> Result<(), Fail> 
         r#"["<b>","start","","complete"]],"title":"<i> & \"so\"","x":[0"#,
     )?;
     let mut page = Vec::new(alloc);
-    let drawing = picture_command::<NoMore, _>(alloc, &file, &mut page)?;
-    drop(drawing);
+    let (reading, own) = check_file(alloc, &file)?;
+    let drawing = drawing_of(alloc, &reading, own)?;
+    write_page(&drawing, &mut page)?;
     let page = with_status(page, 0).ok_or(Unlike::OutOfMemory)?;
     let found = format!(in alloc;
         "{} {} {} {}",

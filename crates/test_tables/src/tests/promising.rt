@@ -5,12 +5,12 @@ use std::alloc::{AllocError, Global};
 use std::test::Fail;
 use wh_author_tools::ScenarioFault;
 use wh_events::Text;
-use wh_promise_check::{
-    PhraseFinding, PromiseFinding, PromiseFindings, are_kept, check_promises, findings_json,
-    findings_text,
+use wh_promise_check::promise_findings;
+use wh_row_rules::{
+    PhraseFinding, PromiseFinding, PromiseFindings, PromiseVerdict, WayStep, are_kept,
 };
-use wh_table_promises::{PromiseVerdict, WayStep};
-use wh_table_text::read_table;
+use wh_table_check::{findings_json, findings_text};
+use wh_table_text::table_reading;
 
 /// Both texts, which should be the same.
 fn differs(alloc: Global, given: &str, wanted: &str) -> Result<ScenarioFault, AllocError> {
@@ -32,8 +32,8 @@ fn is_same(alloc: Global, given: &str, wanted: &str) -> Result<(), Fail> {
 
 /// The findings about the promises of a table.
 fn found_of(alloc: Global, table: &str) -> Result<PromiseFindings, Fail> {
-    let own = read_table(alloc, table.as_bytes())?;
-    let found = check_promises(alloc, table.as_bytes(), &own)?;
+    let reading = table_reading(alloc, table.as_bytes())?;
+    let found = promise_findings(alloc, &reading)?;
     Ok(found)
 }
 

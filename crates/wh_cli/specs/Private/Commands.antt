@@ -1,11 +1,12 @@
 -- What a plan asks for, and what came of it.
-use Rattle.std.specs.Prelude.{◌≡◌, ℕ, List}
+use Rattle.std.specs.Prelude.{◌≡◌, ◌⊎◌, ℕ, List}
 use Rattle.wh_command_line.specs.Options.{sizes_of}
 use Rattle.wh_command_line.specs.declared.command_line.Plan.{Plan}
 use Rattle.wh_command_line.specs.declared.command_line.Plan.TheVariants.{Replay, Explain, Page, View, Query, Check, Picture, Try, Serve, Work, Help}
 use Rattle.wh_command_line.specs.declared.work.WorkOptions.{WorkOptions}
 use Rattle.wh_console.specs.Consoles.{ConsoleView, IsQuiet, Reported}
 use Rattle.wh_console.specs.Inputs.{IsReadFrom}
+use Rattle.wh_crew.specs.declared.serving.LiveEnd.{LiveEnd}
 use Rattle.wh_diagnostics.specs.Failures.{IsWriteFailure, input_failure}
 use Rattle.wh_diagnostics.specs.Files.{HasCarriedOut, IsNotCarriedOut}
 use Rattle.wh_diagnostics.specs.Printing.{HasPrinted, IsRefused}
@@ -16,7 +17,6 @@ use Rattle.wh_file_commands.specs.Pages.{HasPaged}
 use Rattle.wh_file_commands.specs.Queries.{HasQueried, IsUnqueried}
 use Rattle.wh_file_commands.specs.Refusals.{IsUnshown}
 use Rattle.wh_file_commands.specs.Views.{HasViewed}
-use Rattle.wh_table_commands.specs.Finds.{Finds}
 use Rattle.wh_query_report.specs.Inputs.{query_of}
 use Rattle.wh_workflow.specs.Queries.{Queries}
 use Rattle.wh_replay_command.specs.Replays.{HasNotReplayedPaths, HasReplayedPaths}
@@ -27,18 +27,18 @@ use Rattle.wh_table_commands.specs.Refusals.{IsUntried}
 use Rattle.wh_table_commands.specs.Trials.{HasTried}
 use Rattle.wh_work.specs.Plans.{IsLivePlan, LivesBy}
 use Rattle.wh_work.specs.Policies.{IsPlanFault}
+use Rattle.wh_work.specs.PolicyFaults.{policy_fault_text}
 use Rattle.wh_work.specs.Reports.{live_as, live_status}
 use Rattle.wh_work.specs.declared.plan.LivePlan.{LivePlan}
 use Rattle.wh_work.specs.declared.policies.PlanFault.{PlanFault}
 use Rattle.wh_work.specs.declared.policies.PlanFault.TheVariants as faults
-use Rattle.wh_work.specs.declared.report.WorkEnd.{WorkEnd}
 use Rattle.wh_workflow.specs.Law.{Program}
 
 -- live tasks were served as the options ask for, how they ended was reported, and the status is that of their end
 pub record HasWorked (lives : LivesBy) (options : WorkOptions) (old new : ConsoleView) (status : ℕ) : Type 0 where
   pub plan : LivePlan
   pub planned : IsLivePlan options plan
-  pub end : WorkEnd
+  pub end : LiveEnd
   pub served : lives plan end
   pub reported : Reported old new (λ name. live_as plan.format end)
   pub ends : status ≡ live_status end
@@ -58,9 +58,9 @@ Obeys program queries lives types (Query file query_type input format) old new s
     HasCarriedOut IsReadFrom (HasQueried program queries types (query_of query_type input.items) format) file
     old new status
 Obeys program queries lives types (Check file more format) old new status =
-    HasCheckedPaths Finds format file more.items old new status
+    HasCheckedPaths format file more.items old new status
 Obeys program queries lives types (Picture file) old new status =
-    HasCarriedOut IsReadFrom (HasDrawn Finds) file old new status
+    HasCarriedOut IsReadFrom HasDrawn file old new status
 Obeys program queries lives types (Try file scenario) old new status =
     HasCarriedOut IsReadFrom (HasTried IsReadFrom file scenario) file old new status
 Obeys program queries lives types (Serve dir options required progress) old new status =
@@ -68,18 +68,20 @@ Obeys program queries lives types (Serve dir options required progress) old new 
 Obeys program queries lives types (Work options) old new status = HasWorked lives options old new status
 Obeys program queries lives types (Help text) old new status = HasPrinted text 0 old new status
 
--- the failure if there is no plan to serve live tasks, by the fault
-abbrev pub plan_failure : PlanFault → Failure
-plan_failure (faults.Unread fault) = input_failure fault
-plan_failure (faults.BadPolicies bad) = BadPolicies bad.path bad.fault
-plan_failure (faults.BadMetrics text) = BadLine text
-plan_failure faults.OutOfMemory = OutOfMemory
+-- the failure if there is no plan to serve live tasks, by the fault: there may be no memory for the words of a file that
+-- gives no policies
+abbrev pub IsPlanFailure : PlanFault → Failure → Type 0
+IsPlanFailure (faults.Unread fault) failure = failure ≡ input_failure fault
+IsPlanFailure (faults.BadPolicies bad) failure =
+    (failure ≡ BadPolicies bad.path (policy_fault_text bad.fault)) ⊎ (failure ≡ OutOfMemory)
+IsPlanFailure (faults.BadMetrics text) failure = failure ≡ BadLine text
+IsPlanFailure faults.OutOfMemory failure = failure ≡ OutOfMemory
 
 -- why work with live tasks has no report: there is no plan for it, by its fault, or there was no memory
 pub record IsWorkFailure (options : WorkOptions) (failure : Failure) : Type 0 where
   pub fault : PlanFault
   pub is : IsPlanFault options.metrics fault
-  pub gives : failure ≡ plan_failure fault
+  pub gives : IsPlanFailure fault failure
 
 -- what a plan asks for failed, and why: live work left the console as it was; an explanation and the help reported
 -- nothing; a page, a view, a query, a picture and a trial reported nothing, and wrote nothing unless the output failed;

@@ -8,7 +8,7 @@ use Rattle.wh_replay.specs.Checks.{checked}
 use Rattle.wh_tester.specs.declared.line.Verdict.{Verdict}
 use Rattle.wh_tester.specs.declared.line.Verdict.TheVariants.{OutOfMemory}
 use Rattle.wh_tester.specs.Verdicts.{judged}
-use Rattle.wh_explain.specs.declared.explanation.ExplainedTask.{ExplainedTask}
+use Rattle.wh_explained_tasks.specs.declared.ExplainedTask.{ExplainedTask}
 use Rattle.wh_explain.specs.Explaining.{stops}
 
 module _ {S : Type 0} where

@@ -10,30 +10,25 @@ use Rattle.wh_replay.specs.declared.fault.Fault.{Fault}
 use Rattle.wh_replay.specs.Checks.{checked, ends_live}
 use Rattle.wh_replay.specs.Replays.{replay_after, replay_known, start, workflow_of}
 use Rattle.wh_tester.specs.declared.line.Verdict.{Verdict}
-use Rattle.wh_tester.specs.declared.line.Verdict.TheVariants.{Good, Faulty}
 use Rattle.wh_tester.specs.Verdicts.{judged, verdict_on}
 use Rattle.wh_explain.specs.declared.explanation.DetailLevel.{DetailLevel}
-use Rattle.wh_explain.specs.declared.explanation.ExplainedTask.{ExplainedTask}
-use Rattle.wh_explain.specs.declared.findings.Finding.{Finding}
+use Rattle.wh_explained_tasks.specs.declared.ExplainedTask.{ExplainedTask}
+use Rattle.wh_explain.specs.declared.explanation.Explanation.{Explanation}
 use Rattle.wh_explain.specs.Differences.{last_difference}
-use Rattle.wh_explain.specs.Explaining.{AreTasksIn, AreTasksOf, AreTasksPlaced, unknown_in, unknown_of, unknown_placed}
+use Rattle.wh_explain.specs.Explaining.{AreTasksIn, AreTasksOf, AreTasksPlaced}
+use Rattle.wh_tester.specs.UnknownTypes.{unknown_in, unknown_of, unknown_placed}
 use Rattle.wh_explain.specs.Private.Stepping.{Keeps}
 
--- the verdict on tasks that were stepped up to this fault, or all if there is none
-abbrev pub verdict_by : Option Fault → Checked → Verdict
-verdict_by None checked = Good checked
-verdict_by (Some fault) checked = Faulty fault
-
--- the findings have these tasks, kept as `detail` says, this workflow type, this verdict, and the difference that the
+-- the explanation has these tasks, kept as `detail` says, this workflow type, this verdict, and the difference that the
 -- tasks end in
-pub record AreFound (detail : DetailLevel) (AreThose : List ExplainedTask → Type 0) (unknown : Option (List ℕ))
-    (verdict : Verdict) (finding : Finding) (kept : List ExplainedTask) : Type 0 where
+pub record IsFound (detail : DetailLevel) (AreThose : List ExplainedTask → Type 0) (unknown : Option (List ℕ))
+    (verdict : Verdict) (own : Explanation) : Type 0 where
   pub tasks : List ExplainedTask
   pub explained : AreThose tasks
-  pub keeps : Keeps detail kept tasks
-  pub unknown_is : finding.unknown ≡ unknown
-  pub verdict_is : finding.verdict ≡ verdict
-  pub differs_in : finding.difference ≡ last_difference tasks
+  pub keeps : Keeps detail own.tasks tasks
+  pub unknown_is : own.unknown ≡ unknown
+  pub verdict_is : own.verdict ≡ verdict
+  pub differs_in : own.difference ≡ last_difference tasks
 
 module _ {S : Type 0} where
   -- the result of checking events in place
@@ -45,19 +40,19 @@ module _ {S : Type 0} where
       (replay_after program [] [] events (start program (workflow_of events) 0)))
       (λ _. Ok (record { tasks = length (cuts events); live = ends_live events }))
 
-  -- the findings of events in place
-  abbrev pub AreFoundPlaced : DetailLevel → Program S → Result (List Event) Fault → Finding → List ExplainedTask → Type 0
-  AreFoundPlaced detail program placed =
-      AreFound detail (AreTasksPlaced placed program) (unknown_placed program placed)
+  -- the explanation of events in place
+  abbrev pub IsFoundPlaced : DetailLevel → Program S → Result (List Event) Fault → Explanation → Type 0
+  IsFoundPlaced detail program placed =
+      IsFound detail (AreTasksPlaced placed program) (unknown_placed program placed)
       (judged (checked_placed program placed))
 
-  -- the findings of a history
-  abbrev pub AreFoundOf : DetailLevel → Program S → List Event → Finding → List ExplainedTask → Type 0
-  AreFoundOf detail program events =
-      AreFound detail (AreTasksOf program events) (unknown_of program events) (judged (checked program events))
+  -- the explanation of a history
+  abbrev pub IsFoundOf : DetailLevel → Program S → List Event → Explanation → Type 0
+  IsFoundOf detail program events =
+      IsFound detail (AreTasksOf program events) (unknown_of program events) (judged (checked program events))
 
-  -- the findings of a file
-  abbrev pub AreFoundIn : DetailLevel → Program S → List ℕ → Finding → List ExplainedTask → Type 0
-  AreFoundIn detail program bytes =
-      AreFound detail (AreTasksIn program (history bytes)) (unknown_in program (history bytes))
+  -- the explanation of a file
+  abbrev pub IsFoundIn : DetailLevel → Program S → List ℕ → Explanation → Type 0
+  IsFoundIn detail program bytes =
+      IsFound detail (AreTasksIn program (history bytes)) (unknown_in program (history bytes))
       (verdict_on program bytes)

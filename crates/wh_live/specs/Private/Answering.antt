@@ -3,7 +3,7 @@ use Rattle.std.specs.Prelude.{◌≡◌, ◌≢◌, ◌↔◌, ◌⊎◌, ◌<�
 use Rattle.std.specs.List.{list_any}
 use Rattle.std.specs.Str.{bytes_eq}
 use Rattle.serde_json.specs.Data.{Data, Members, no_members, member}
-use Rattle.serde_json.specs.View.{members_view}
+use Rattle.serde_json.specs.View.{members_view, view}
 use Rattle.wh_client.specs.Calls.{Fails, Gives}
 use Rattle.wh_client.specs.Codes.{accepted_answer, is_taken, keeps_run}
 use Rattle.wh_live.specs.Answers.{cause_of, receipt_of}
@@ -15,8 +15,11 @@ use Rattle.wh_client.specs.declared.codes.Receipt.{Receipt}
 use Rattle.wh_client.specs.declared.codes.Receipt.TheVariants.{Lost, NoMemory, Replaced, Withheld}
 use Rattle.wh_client.specs.declared.codes.StatusCode.{StatusCode}
 use Rattle.wh_client.specs.declared.codes.StatusCode.TheVariants as status
+use Rattle.wh_client.specs.Requests.{WritesRequest}
 use Rattle.wh_client.specs.declared.options.LiveOptions.{LiveOptions}
+use Rattle.wh_client.specs.declared.requests.Request.{Request}
 use Rattle.wh_commands.specs.declared.fault.RequestFault.{RequestFault}
+use Rattle.wh_commands.specs.declared.fault.RequestFault.TheVariants as requests
 use Rattle.wh_events.specs.declared.event.Event.{Event}
 use Rattle.wh_events.specs.declared.key.RunKey.{RunKey}
 use Rattle.wh_commands.specs.CarryingOver.{Carried, continues, nothing_carried}
@@ -30,9 +33,9 @@ use Rattle.wh_slots.specs.declared.TaskName.{TaskName}
 use Rattle.wh_tasks.specs.declared.source.RunUse.{RunUse}
 use Rattle.wh_tasks.specs.declared.source.RunUse.TheVariants.{Cache, Discard}
 use Rattle.wh_workflow.specs.declared.command.Command.{Command}
-use Rattle.wh_live.specs.declared.tallies.Tally.{Tally}
+use Rattle.wh_notes.specs.declared.tallies.Tally.{Tally}
 use Rattle.wh_live.specs.declared.tasks.OpenTask.{OpenTask}
-use Rattle.wh_live.specs.Private.Counting.{settled, with_failure}
+use Rattle.wh_notes.specs.Tallies.{settled, with_failure}
 use Rattle.wh_live.specs.Private.Receipts.{IsReceiptOf, IsRefusedAsLarge}
 use Rattle.wh_tasks.specs.declared.source.SourceFault.{SourceFault}
 
@@ -63,22 +66,31 @@ abbrev pub IsReceiptOrSmaller : Gives → Fails → List ℕ → Data → (Recei
 IsReceiptOrSmaller gives fails method params smaller receipt = IsReceiptOf gives fails method params receipt
     ⊎ (IsRefusedAsLarge (fails method params) × smaller receipt)
 
--- what became of a completion with results of queries, by what is written for it: a request; or a fault, and the task is
--- failed instead
-abbrev pub IsCompletionOrSmaller : Gives → Fails → Result Data RequestFault → (Receipt → Type 0) → Receipt → Type 0
-IsCompletionOrSmaller gives fails (Ok params) smaller receipt =
-    IsReceiptOrSmaller gives fails (codes "RespondWorkflowTaskCompleted") params smaller receipt
-IsCompletionOrSmaller gives fails (Err fault) smaller receipt = IsReplaced receipt
+-- what becomes of a completion with results of queries that was not written: without memory, what became of the one
+-- without them; otherwise the task is failed instead
+abbrev pub ReplacesUnwritten : (Receipt → Type 0) → RequestFault → Receipt → Type 0
+ReplacesUnwritten smaller (requests.TooLong timer_id) receipt = IsReplaced receipt
+ReplacesUnwritten smaller (requests.NotScheduled activity_id) receipt = IsReplaced receipt
+ReplacesUnwritten smaller (requests.NeverSent change_id) receipt = IsReplaced receipt
+ReplacesUnwritten smaller requests.OutOfMemory receipt = smaller receipt
+
+-- what became of a completion with results of queries, by what was written for it: a request or a fault
+abbrev pub CompletesWritten : Gives → Fails → (Receipt → Type 0) → Result Request RequestFault → Receipt → Type 0
+CompletesWritten gives fails smaller (Ok request) receipt =
+    IsReceiptOrSmaller gives fails request.method.now (view request.params) smaller receipt
+CompletesWritten gives fails smaller (Err fault) receipt = ReplacesUnwritten smaller fault receipt
 
 -- what became of the completion of the task with these commands and the results of its queries, or of the one without
--- these results, if that with them was too large
+-- these results, if that with them was too large, or there was no memory for it
 pub record HasAnsweredQueries (gives_results : GivesResults) (gives : Gives) (fails : Fails) (options : LiveOptions)
     (task : OpenTask) (commands : List Command) (events : List Event) (carried : Carried) (receipt : Receipt) : Type 0 where
   pub results : Members
   pub has : gives_results events (members_view task.queries.entries) (Some results)
-  pub became : IsCompletionOrSmaller gives fails
+  pub written : Result Request RequestFault
+  pub writes : WritesRequest written (codes "RespondWorkflowTaskCompleted")
       (workflow_completed options.names task.token commands events results options.sticky options.policies carried)
-      (CompletesWith gives fails options task commands events no_members carried) receipt
+  pub became : CompletesWritten gives fails
+      (CompletesWith gives fails options task commands events no_members carried) written receipt
 
 -- what became of a completion without results, since there was no memory for those of the task's queries
 abbrev pub CompletesWithoutResults : GivesResults → Gives → Fails → LiveOptions → OpenTask → List Command → List Event

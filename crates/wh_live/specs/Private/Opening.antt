@@ -17,9 +17,10 @@ use Rattle.wh_events.specs.declared.key.RunKey.{RunKey}
 use Rattle.wh_json.specs.declared.fault.ReadFault.{ReadFault}
 use Rattle.wh_live.specs.Deliveries.{HasKept, IsActivityOf, IsTaskOf, later_in}
 use Rattle.wh_live.specs.Private.Answering.{IsFailed}
-use Rattle.wh_live.specs.Private.Polls.{end_of}
-use Rattle.wh_live.specs.declared.tasks.Brought.{Brought}
-use Rattle.wh_live.specs.declared.tasks.Brought.TheVariants as brought
+use Rattle.wh_live.specs.Private.Noting.{Shows}
+use Rattle.wh_notes.specs.Polls.{end_of}
+use Rattle.wh_notes.specs.declared.results.PollResult.{PollResult}
+use Rattle.wh_notes.specs.declared.results.PollResult.TheVariants as results
 use Rattle.wh_live.specs.declared.tasks.OpenTask.{OpenTask}
 use Rattle.wh_messages.specs.declared.response.PolledActivity.{PolledActivity}
 use Rattle.wh_commands.specs.declared.names.WorkerNames.{WorkerNames}
@@ -38,11 +39,11 @@ use Rattle.wh_tasks.specs.declared.source.WorkflowTask.{WorkflowTask}
 use Rattle.wh_tasks.specs.Source.{IfTask}
 
 -- this holds for the task, if the poll returned one
-abbrev pub OnTask : {A : Type 0} → (A → Type 0) → Brought A → Type 0
-OnTask p (brought.Task task) = p task
-OnTask p brought.Empty = Unit {0}
-OnTask p brought.Settled = Unit {0}
-OnTask p (brought.Lost text) = Unit {0}
+abbrev pub OnTask : {A : Type 0} → (A → Type 0) → PollResult A → Type 0
+OnTask p (results.Task task) = p task
+OnTask p results.Empty = Unit {0}
+OnTask p results.Settled = Unit {0}
+OnTask p (results.Lost text) = Unit {0}
 
 -- the members of a history are malformed
 abbrev pub AreMalformed : List Data → Type 0
@@ -50,12 +51,12 @@ AreMalformed members = (fault : ReadFault) × CanNotBeRead members (asked.Histor
 
 -- what the members of a task's history may bring: it is settled only if they are malformed and the task was failed, and
 -- never an empty poll
-abbrev pub MayRead : {A : Type 0} → Gives → Fails → WorkerNames → OpenTask → List Data → Brought A → Type 0
-MayRead gives fails names task members (brought.Task given) = ⊤
-MayRead gives fails names task members brought.Empty = ⊥
-MayRead gives fails names task members brought.Settled =
+abbrev pub MayRead : {A : Type 0} → Gives → Fails → WorkerNames → OpenTask → List Data → PollResult A → Type 0
+MayRead gives fails names task members (results.Task given) = ⊤
+MayRead gives fails names task members results.Empty = ⊥
+MayRead gives fails names task members results.Settled =
     AreMalformed members × IsFailed gives fails names task.token task.attempt Unhandled
-MayRead gives fails names task members (brought.Lost text) = ⊤
+MayRead gives fails names task members (results.Lost text) = ⊤
 
 -- the history of a task, with all its pages, is malformed
 pub record IsMalformed (gives : Gives) (names : WorkerNames) (polled : Task) : Type 0 where
@@ -65,52 +66,52 @@ pub record IsMalformed (gives : Gives) (names : WorkerNames) (polled : Task) : T
 
 -- what a task that a poll returned may bring: it is settled only if its history is malformed and it was failed, and
 -- never an empty poll
-abbrev pub MayOpen : {A : Type 0} → Gives → Fails → WorkerNames → Task → Brought A → Type 0
-MayOpen gives fails names polled (brought.Task task) = ⊤
-MayOpen gives fails names polled brought.Empty = ⊥
-MayOpen gives fails names polled brought.Settled =
+abbrev pub MayOpen : {A : Type 0} → Gives → Fails → WorkerNames → Task → PollResult A → Type 0
+MayOpen gives fails names polled (results.Task task) = ⊤
+MayOpen gives fails names polled results.Empty = ⊥
+MayOpen gives fails names polled results.Settled =
     IsMalformed gives names polled × IsFailed gives fails names polled.token polled.attempt Unhandled
-MayOpen gives fails names polled (brought.Lost text) = ⊤
+MayOpen gives fails names polled (results.Lost text) = ⊤
 
 -- what a poll for workflow tasks may bring: without a task it is empty, a query is settled, and a result that can't be
 -- read brings nothing
-abbrev pub MayBring : {A : Type 0} → Gives → Fails → WorkerNames → read.Poll → Brought A → Type 0
-MayBring gives fails names read.nothing brings = brings ≡ brought.Empty
+abbrev pub MayBring : {A : Type 0} → Gives → Fails → WorkerNames → read.Poll → PollResult A → Type 0
+MayBring gives fails names read.nothing brings = brings ≡ results.Empty
 MayBring gives fails names (read.task polled) brings = MayOpen gives fails names polled brings
-MayBring gives fails names (read.query token result) brings = brings ≡ brought.Settled
+MayBring gives fails names (read.query token result) brings = brings ≡ results.Settled
 MayBring gives fails names read.unreadable brings = ⊥
 
 -- the poll of a queue got a result that may bring this
-pub record IsBrought {A : Type 0} (gives : Gives) (fails : Fails) (names : WorkerNames) (sticky : Bool)
-    (brings : Brought A) : Type 0 where
+pub record HasPollResult {A : Type 0} (gives : Gives) (fails : Fails) (names : WorkerNames) (sticky : Bool)
+    (brings : PollResult A) : Type 0 where
   pub poll : read.Poll
   pub given : IsWorkflowPoll gives names sticky poll
   pub may : MayBring gives fails names poll brings
 
--- a task is brought
-abbrev pub IsTask : {A : Type 0} → Brought A → Type 0
-IsTask (brought.Task task) = ⊤
-IsTask brought.Empty = ⊥
-IsTask brought.Settled = ⊥
-IsTask (brought.Lost text) = ⊥
+-- the poll gave a task
+abbrev pub IsTask : {A : Type 0} → PollResult A → Type 0
+IsTask (results.Task task) = ⊤
+IsTask results.Empty = ⊥
+IsTask results.Settled = ⊥
+IsTask (results.Lost text) = ⊥
 
 -- what a poll for activity tasks may bring: without a task it is empty, and a result that can't be read brings nothing
-abbrev pub MayBringActivity : {A : Type 0} → ActivityPoll → Brought A → Type 0
-MayBringActivity ActivityPoll.Nothing brings = brings ≡ brought.Empty
+abbrev pub MayBringActivity : {A : Type 0} → ActivityPoll → PollResult A → Type 0
+MayBringActivity ActivityPoll.Nothing brings = brings ≡ results.Empty
 MayBringActivity (ActivityPoll.Task polled) brings = IsTask brings
 MayBringActivity ActivityPoll.Unreadable brings = ⊥
 
-pub record IsBroughtActivity {A : Type 0} (gives : Gives) (names : WorkerNames) (brings : Brought A) : Type 0 where
+pub record HasActivityResult {A : Type 0} (gives : Gives) (names : WorkerNames) (brings : PollResult A) : Type 0 where
   pub poll : ActivityPoll
   pub given : IsActivityPoll gives names poll
   pub may : MayBringActivity poll brings
 
--- a task is given up, and what is to be reported of it is brought
-abbrev pub IsLost : {A : Type 0} → Brought A → Type 0
-IsLost (brought.Task task) = ⊥
-IsLost brought.Empty = ⊥
-IsLost brought.Settled = ⊥
-IsLost (brought.Lost text) = ⊤
+-- the poll gave a task that is given up, with what is to be reported of it
+abbrev pub IsLost : {A : Type 0} → PollResult A → Type 0
+IsLost (results.Task task) = ⊥
+IsLost results.Empty = ⊥
+IsLost results.Settled = ⊥
+IsLost (results.Lost text) = ⊤
 
 -- a task that a poll returned is not opened, and nothing is said of it: the bridge has closed, or there was no memory
 abbrev pub IsSilent : AskFault → Type 0
@@ -123,44 +124,46 @@ IsSilent (asked.History fault) = ⊥
 IsSilent asked.OutOfMemory = ⊤
 
 -- a task is answered with its token, in its attempt, with the results of its queries, and under the name under which it
--- is delivered, which is the id of the poll
-pub record Opens (id : ℕ) (polled : Task) (opened : OpenTask) (given : TaskName) : Type 0 where
+-- is delivered, which is the id of the poll; it came at a time that a clock showed
+pub record Opens (shows : Shows) (id : ℕ) (polled : Task) (opened : OpenTask) (given : TaskName) : Type 0 where
   pub numbered : given.0 ≡ id
   pub name : opened.name ≡ given
   pub token : opened.token ≡ polled.token
   pub run : opened.run ≡ polled.run
   pub attempt : opened.attempt ≡ polled.attempt
   pub queries : members_view opened.queries.entries ≡ polled.queries
+  pub came : shows opened.since
 
 -- the same for an activity task
-pub record OpensActivity (id : ℕ) (polled : PolledActivity) (opened : OpenTask) (given : TaskName) : Type 0 where
+pub record OpensActivity (shows : Shows) (id : ℕ) (polled : PolledActivity) (opened : OpenTask) (given : TaskName) : Type 0 where
   pub numbered : given.0 ≡ id
   pub name : opened.name ≡ given
   pub token : opened.token ≡ polled.token
   pub run : opened.run ≡ polled.run
+  pub came : shows opened.since
 
 -- the task that a poll of a queue returned is delivered, and is the open one
-pub record OpensPolled (gives : Gives) (names : WorkerNames) (sticky : Bool) (opened : OpenTask)
+pub record OpensPolled (gives : Gives) (shows : Shows) (names : WorkerNames) (sticky : Bool) (opened : OpenTask)
     (task : WorkflowTask) : Type 0 where
   pub id : ℕ
   pub polled : Task
   pub poll : IsWorkflowPoll gives names sticky (read.task polled)
   pub is : IsTaskOf gives names polled task
-  pub opens : Opens id polled opened task.name
+  pub opens : Opens shows id polled opened task.name
 
 -- the same for the queue of a source, if it has one
-abbrev pub OpensQueued : Gives → WorkerNames → Option Bool → OpenTask → WorkflowTask → Type 0
-OpensQueued gives names None opened task = ⊥
-OpensQueued gives names (Some sticky) opened task = OpensPolled gives names sticky opened task
+abbrev pub OpensQueued : Gives → Shows → WorkerNames → Option Bool → OpenTask → WorkflowTask → Type 0
+OpensQueued gives shows names None opened task = ⊥
+OpensQueued gives shows names (Some sticky) opened task = OpensPolled gives shows names sticky opened task
 
 -- the activity task that a poll returned is delivered, and is the open one
-pub record OpensPolledActivity (gives : Gives) (names : WorkerNames) (opened : OpenTask)
+pub record OpensPolledActivity (gives : Gives) (shows : Shows) (names : WorkerNames) (opened : OpenTask)
     (task : ActivityTask) : Type 0 where
   pub id : ℕ
   pub polled : PolledActivity
   pub poll : IsActivityPoll gives names (ActivityPoll.Task polled)
   pub is : IsActivityOf polled task
-  pub opens : OpensActivity id polled opened task.name
+  pub opens : OpensActivity shows id polled opened task.name
 
 -- a task that is delivered is the one that is open, and both are from one poll
 abbrev pub GivesOpened : {A : Type 0} → (OpenTask → A → Type 0)
@@ -171,7 +174,7 @@ GivesOpened p result open_task = IfOk result (IfTask (λ task. IsSomeAnd open_ta
 abbrev pub later_events : List Event → List Event
 later_events events = if follows 0 events then [] else events
 
--- the open task keeps its token, run, attempt, queries and name, under which it is delivered
+-- the open task keeps its token, run, attempt, queries, time and name, under which it is delivered
 pub record StaysOpen (old new : OpenTask) (given : TaskName) : Type 0 where
   pub kept : old.name ≡ given
   pub name : new.name ≡ given
@@ -179,6 +182,7 @@ pub record StaysOpen (old new : OpenTask) (given : TaskName) : Type 0 where
   pub run : new.run ≡ old.run
   pub attempt : new.attempt ≡ old.attempt
   pub queries : new.queries ≡ old.queries
+  pub since : new.since ≡ old.since
 
 -- if the poll returned a task it is delivered and opened; otherwise the open task stays
 abbrev pub IsOpened : {A : Type 0} → Result (Polled (OpenTask × A)) SourceFault → Option OpenTask

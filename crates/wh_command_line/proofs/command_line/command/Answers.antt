@@ -1,4 +1,5 @@
-use Rattle.wh_command_line.specs.Lines.{program, replay, explain, query, check, trial, serve, work}
+use Rattle.wh_command_line.specs.Lines.{program, explain, query, check, trial, serve, work}
+use Rattle.wh_command_line.specs.Replays.{replay}
 use Rattle.wh_command_line.proofs.command_line.command.Goals as goal
 
 pub returns : goal.returns

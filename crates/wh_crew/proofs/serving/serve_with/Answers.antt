@@ -8,6 +8,8 @@ use denote.Ref.{NamedLft}
 use mir.Syntax.{named}
 use Rattle.wh_crew.specs.contracts.bridge_connection.BridgeConnectionConnection.TheImpl as connection
 use Rattle.wh_crew.proofs.Sending.{connection_sync, source_send}
+use Rattle.wh_notes.proofs.Joining.{all_joined}
+use Rattle.wh_notes.specs.Notes.{all_counts}
 use Rattle.wh_crew.proofs.serving.serve_with.Goals as goal
 
 -- the setups are those of the crew, and the end is what the host left of them
@@ -25,6 +27,10 @@ returns-clause-served g c =
       ran = c.in_ok-end.ensures.end;
       totals = refl;
       tally = c.total_tally.ensures ∙ ap (λ left. tallies_of (map (λ worker. worker.source.tally) left)) c.as_slice.ensures.value;
+      counts =
+          c.total_counts.ensures
+          ∙ ap (all_counts (λ worker. worker.source.notes)) c.as_slice-2.ensures.value
+          ∙ all_joined (λ worker. worker.source.notes) c.in_ok-end.end.workers.items;
     }
 
 -- a live source may go to another thread
@@ -34,8 +40,10 @@ run_host_answering-requires-send-S g c κs within =
     let C = param 2 g.row.C in
     let ℓ : NamedLft = record { mir = named 14; lft = κs.1.1.1.1.1.1.1.1.1.1.1.1.1.1.0 } in
     let ℓ' : NamedLft = record { mir = named 15; lft = κs.1.1.1.1.1.1.1.1.1.1.1.1.1.1.1.0 } in
-    let ghosts = connection.ghosts R C g.R.Wait connection.no_dict g.R.Clock connection.no_dict g.R.Eprint
-    connection.no_dict g.C.Caller connection.no_dict in
-    let shared = connection_sync ℓ' R C (param_sync 1 _ c.type_bounds.sync-R) (param_sync 2 _ c.type_bounds.sync-C) in
+    let N = param 7 g.row.N in
+    let ghosts = connection.ghosts R C N g.R.Wait connection.no_dict g.R.Clock connection.no_dict g.R.Eprint
+    connection.no_dict g.C.Caller connection.no_dict g.N.SourceObserver connection.no_dict in
+    let shared = connection_sync ℓ' R C N (param_sync 1 _ c.type_bounds.sync-R) (param_sync 2 _ c.type_bounds.sync-C)
+    (param_sync 7 _ c.type_bounds.sync-N) in
     param_send 2 _ (arg_send _ no _ (source_send ℓ _ (param 6 g.row.Q) ghosts g.Q.QueryHandler shared
     (param_sync 6 _ c.type_bounds.sync-Q)))

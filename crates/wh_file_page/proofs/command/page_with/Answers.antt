@@ -3,7 +3,7 @@ use Rattle.wh_file_page.proofs.command.page_with.Goals as goal
 pub returns-clause-page : goal.returns-clause-page
 returns-clause-page g c only_recorded own = record {
   said = c.in_ok-own.own.said;
-  found = c.in_ok-own.ensures only_recorded own;
+  found = rw c.title_of.ensures at (c.in_ok-own.ensures only_recorded own);
   shows = c.in_ok-page.ensures;
 }
 

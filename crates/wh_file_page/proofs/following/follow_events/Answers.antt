@@ -13,5 +13,5 @@ returns-then-not-handles c bytes is =
 pub returns : goal.returns
 returns c bytes is =
     let copy = copy_read bytes c.args.events.now c.in_ok-copy.copy is (c.in_ok-copy.ensures.items_if_clones_equal (λ event own same. same)) in
-    taken bytes c.in_ok-finding.tasks.items c.as_slice.result.now c.way_over.result
-    (c.in_ok-finding.ensures.found bytes copy).explained c.as_slice.ensures.value c.way_over.ensures
+    taken bytes c.in_ok-explanation.explanation.tasks c.get.result.now c.way_over.result
+    (c.in_ok-explanation.ensures.explained bytes copy).explained c.get.ensures c.way_over.ensures

@@ -22,8 +22,8 @@ made gives fails names answer was_canceled task of heard (Ok request) written be
     λ _. record { was_canceled = was_canceled; heard = heard; request = request; written = written; became = became }
 made gives fails names answer was_canceled task of heard (Err refused) written none = λ some. absurd (some none)
 
-pub returns : goal.returns
-returns g c =
+pub returns-clause-received : goal.returns-clause-received
+returns-clause-received g c =
     made g.L.Connection.gives g.L.Connection.fails c.args.client.now.options.now.names c.args.answer.now
     c.was_canceled-was_canceled.result c.args.task.now c.send_written-receipt.result c.was_canceled-was_canceled.ensures
     c.activity_request-request.result c.activity_request-request.ensures c.send_written-receipt.ensures.received

@@ -4,7 +4,8 @@ use Rattle.wh_client.specs.Roles.{polls_sticky}
 use Rattle.wh_live.specs.Deliveries.{AreLater}
 use Rattle.wh_live.specs.Private.Opening.{IsWorkflowFault, OnTask}
 use Rattle.wh_live.proofs.Ending.{closed_by, over_if_ended, workflow_over}
-use Rattle.wh_live.proofs.Later.{is_of_brought, opened_later}
+use Rattle.wh_live.proofs.Later.{is_of_poll, opened_later}
+use Rattle.wh_live.proofs.Noted.{noted_polled}
 use Rattle.wh_live.proofs.polling.poll_workflow.Goals as goal
 
 -- the later events that are kept are those of the task that the queue returned
@@ -14,8 +15,8 @@ returns-clause-later g c =
     let names = c.args.client.now.options.now.names in
     let queue = polls_sticky c.args.role in
     let sticky : queue ≡ Some c.in-Some.sticky = sym c.polls_sticky.ensures ∙ c.in-Some.is in
-    let brought = subst (λ q. IfOk c.take_workflow-taken.result (OnTask (λ taken. AreLater gives names q taken.0.run taken.0.later.items))) (sym sticky) c.take_workflow-taken.ensures.later in
-    let given = is_of_brought (λ taken. AreLater gives names queue taken.0.run taken.0.later.items) c.take_workflow-taken.result c.note_poll-polled.result brought c.note_poll-polled.ensures.task in
+    let poll = subst (λ q. IfOk c.take_workflow-taken.result (OnTask (λ taken. AreLater gives names q taken.0.run taken.0.later.items))) (sym sticky) c.take_workflow-taken.ensures.later in
+    let given = is_of_poll (λ taken. AreLater gives names queue taken.0.run taken.0.later.items) c.take_workflow-taken.result c.note_poll-polled.result poll c.note_poll-polled.ensures.task in
     opened_later gives names queue c.note_poll-polled.result c.args.current.now c.open_polled.result c.open_polled.new.current c.open_polled.ensures given
 
 -- the poll that failed has shown whether a later one can succeed
@@ -38,3 +39,10 @@ returns-clause-closed g c =
     let came = IsWorkflowFault g.L.Connection.gives g.L.Connection.fails c.args.client.now.options.now.names c.in-Some.sticky in
     let queue : polls_sticky c.args.role ≡ Some c.in-Some.sticky = sym c.polls_sticky.ensures ∙ c.in-Some.is in
     λ closed. inr (inr (c.in-Some.sticky, queue, closed_by came c.take_workflow-taken.result c.note_poll-polled.result c.args.current.now c.open_polled.result c.open_polled.new.current c.take_workflow-taken.ensures.failed c.take_workflow-taken.ensures.refused c.note_poll-polled.ensures.reports c.open_polled.ensures closed))
+
+-- the poll notes itself by what the source reports
+pub returns-clause-noted : goal.returns-clause-noted
+returns-clause-noted g c =
+    noted_polled g.L.Connection.gives g.L.Connection.shows c.take_workflow-taken.result c.note_poll-polled.result c.args.current.now c.open_polled.result
+    c.open_polled.new.current c.args.journal.now.notes c.take_workflow-taken.new.notes c.note_poll-polled.new.self.notes
+    c.take_workflow-taken.ensures.noted c.note_poll-polled.ensures.notes c.note_poll-polled.ensures.reports c.open_polled.ensures

@@ -2,12 +2,12 @@ use Rattle.std.proofs.Common.{◌≡◌, [], ◌∷◌, ◌++◌, map, take_all,
 use Rattle.std.specs.List.Sorted.{IsStrictlySortedBy}
 use Rattle.std.specs.Map.{keys_of}
 use Rattle.std.specs.String.{string_cmp}
-use Rattle.serde_json.specs.Data.{depth, items_depth, members_depth}
+use Rattle.serde_json.specs.Data.{members_depth}
 use Rattle.serde_json.specs.View.{view, items_of, items_view, members_view}
-use Rattle.serde_json.proofs.Views.{Entry, members_view-insert_entry, view-Array, view-Object}
+use Rattle.serde_json.proofs.Views.{Entry, members_view-insert_entry}
 use Rattle.wh_payload_metadata.specs.Payloads.{is_payloads}
 use Rattle.wh_payload_metadata.specs.Handed.{list_with_metadata, with_header, handed_on, items_handed_on, member_handed_on}
-use Rattle.wh_payload_metadata.proofs.Walks.{items_handed_on-items_view, put_last_handed, depth-get_or, depth_within}
+use Rattle.wh_payload_metadata.proofs.Walks.{items_handed_on-items_view, put_last_handed, array_depth, object_depth, item_depth, depth_within}
 use Rattle.wh_payload_metadata.proofs.handing.+hand_on.Goals as goal
 use Rattle.wh_payload_metadata.proofs.handing.+hand_on.Goals.{hand_members_on-then-is_payloads+in_ok-member, hand_members_on-else-is_payloads+in_ok-plain+in_ok-member-2}
 
@@ -52,23 +52,15 @@ hand_members_on-loop-name-preserved t c =
     )
 
 pub hand_on-hand_items_on-requires : goal.hand_on-hand_items_on-requires
-hand_on-hand_items_on-requires t c =
-    let size = ap depth (ap view c.in-Array.is ∙ view-Array c.in-Array.items) in
-    (omega (arith, c.decreases, size), tt)
+hand_on-hand_items_on-requires t c = (omega (arith, c.decreases, array_depth _ _ c.in-Array.is), tt)
 
 pub hand_on-hand_members_on-requires : goal.hand_on-hand_members_on-requires
-hand_on-hand_members_on-requires t c =
-    let size = ap depth (ap view c.in-Object.is ∙ view-Object c.in-Object.members) in
-    (omega (arith, c.decreases, size), tt)
+hand_on-hand_members_on-requires t c = (omega (arith, c.decreases, object_depth _ _ c.in-Object.is), tt)
 
 pub hand_items_on-hand_on-requires : goal.hand_items_on-hand_on-requires
 hand_items_on-hand_on-requires t c =
-    let i = c.loop-item.item-index in
-    let xs = c.deref-item-items.result.now in
-    let x = c.item-item.result in
-    let same = ap (λ y. depth (view y)) c.item-item.is in
-    let whole = ap (λ ys. items_depth (items_view ys)) c.deref-item-items.ensures.value in
-    (omega (arith, c.decreases, same, whole, depth-get_or xs i x (omega arith)), tt)
+    let deep = item_depth _ c.deref-item-items.result.now c.loop-item.item-index _ c.deref-item-items.ensures.value c.item-item.is (omega arith) in
+    (omega (arith, c.decreases, deep), tt)
 
 pub hand_members_on-hand_on-requires : goal.hand_members_on-hand_on-requires
 hand_members_on-hand_on-requires t c =

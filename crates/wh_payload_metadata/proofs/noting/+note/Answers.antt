@@ -1,31 +1,23 @@
 use Rattle.std.proofs.Common.{◌≡◌, ◌+◌, ◌∷◌, drop, cond, sym, ap, ◌∙◌, arith}
 use Rattle.std.proofs.lemmas.List.{drop_more}
-use Rattle.serde_json.specs.Data.{depth, items_depth, members_depth}
+use Rattle.serde_json.specs.Data.{members_depth}
 use Rattle.serde_json.specs.View.{view, items_view, members_view}
-use Rattle.serde_json.proofs.Views.{Entry, view-Array, view-Object}
+use Rattle.serde_json.proofs.Views.{Entry}
 use Rattle.wh_payload_metadata.specs.Payloads.{is_payloads, payloads_in, payloads_of, payloads_of_items, payloads_of_members}
 use Rattle.wh_payload_metadata.specs.Seen.{all_noted}
-use Rattle.wh_payload_metadata.proofs.Walks.{all_noted-append, member_noted, depth-get_or}
+use Rattle.wh_payload_metadata.proofs.Walks.{all_noted-append, member_noted, array_depth, object_depth, item_depth}
 use Rattle.wh_payload_metadata.proofs.noting.+note.Goals as goal
 
 pub note-note_items-requires : goal.note-note_items-requires
-note-note_items-requires t c =
-    let size = ap depth (ap view c.in-Array.is ∙ view-Array c.in-Array.items) in
-    (omega (arith, c.decreases, size), tt)
+note-note_items-requires t c = (omega (arith, c.decreases, array_depth _ _ c.in-Array.is), tt)
 
 pub note-note_members-requires : goal.note-note_members-requires
-note-note_members-requires t c =
-    let size = ap depth (ap view c.in-Object.is ∙ view-Object c.in-Object.members) in
-    (omega (arith, c.decreases, size), tt)
+note-note_members-requires t c = (omega (arith, c.decreases, object_depth _ _ c.in-Object.is), tt)
 
 pub note_items-note-requires : goal.note_items-note-requires
 note_items-note-requires t c =
-    let i = c.loop-item.item-index in
-    let xs = c.deref-item-items.result.now in
-    let x = c.item-item.result in
-    let same = ap (λ y. depth (view y)) c.item-item.is in
-    let whole = ap (λ ys. items_depth (items_view ys)) c.deref-item-items.ensures.value in
-    (omega (arith, c.decreases, same, whole, depth-get_or xs i x (omega arith)), tt)
+    let deep = item_depth _ c.deref-item-items.result.now c.loop-item.item-index _ c.deref-item-items.ensures.value c.item-item.is (omega arith) in
+    (omega (arith, c.decreases, deep), tt)
 
 pub note_members-note-requires : goal.note_members-note-requires
 note_members-note-requires t c =

@@ -1,6 +1,6 @@
 use Rattle.std.proofs.Common.{List, ◌++◌, drop}
 use Rattle.wh_row_rules.specs.Broken.{definition}
-use Rattle.wh_promise_check.specs.declared.findings.PromiseFinding.{PromiseFinding}
+use Rattle.wh_row_rules.specs.declared.promises.PromiseFinding.{PromiseFinding}
 use Rattle.wh_promise_check.specs.Findings.{AreFound}
 use Rattle.wh_promise_check.proofs.findings.findings_of.Given as goal
 

@@ -7,4 +7,4 @@ use Rattle.wh_replay_command.proofs.batches.check_batches.Given as goal
 -- the batches so far were replayed, and reported
 abbrev pub invariant-loop-batch : goal.invariant-loop-batch
 invariant-loop-batch g l =
-    AreBatched (AreRecordsOf l.strict g.W.Workflow.program (IsReadAs g.R.InputReader.gives)) faulty_of l.mode l.fn.inputs.items l._batch l.records.items l.left.items l.fn.console l.console
+    AreBatched (AreRecordsOf l.options g.W.Workflow.program (IsReadAs g.R.InputReader.gives)) faulty_of l.mode l.fn.inputs.items l._batch l.records.items l.left.items l.fn.console l.console

@@ -7,7 +7,7 @@ use Rattle.wh_replay_command.proofs.batches.check_in_batches.Goals as goal
 -- what was reported between batches, and the end of that
 pub returns-clause-told : goal.returns-clause-told
 returns-clause-told g c =
-    told_in_all c.args.strict g.W.Workflow.program (IsReadAs g.R.InputReader.gives) c.args.mode c.args.inputs.items c.reported_batches-lines.result
+    told_in_all c.args.options g.W.Workflow.program (IsReadAs g.R.InputReader.gives) c.args.mode c.args.inputs.items c.reported_batches-lines.result
     c.args.console.now c.check_batches-records.new.console c.report.new.self c.check_batches-records.result
     (c.reported_batches-lines.ensures.batches ∙ ap (reported_batches c.args.mode) (c.len.ensures ∙ c.args.inputs.ok.0))
     c.check_batches-records.ensures.found c.check_batches-records.ensures.told c.report.ensures
@@ -15,7 +15,7 @@ returns-clause-told g c =
 -- so it is if the replay stopped
 pub returns-clause-stopped : goal.returns-clause-stopped
 returns-clause-stopped g c =
-    stopped_in_all c.args.strict g.W.Workflow.program (IsReadAs g.R.InputReader.gives) c.args.mode c.args.inputs.items c.reported_batches-lines.result
+    stopped_in_all c.args.options g.W.Workflow.program (IsReadAs g.R.InputReader.gives) c.args.mode c.args.inputs.items c.reported_batches-lines.result
     c.args.console.now c.check_batches-records.new.console c.report.new.self c.check_batches-records.result
     (c.reported_batches-lines.ensures.batches ∙ ap (reported_batches c.args.mode) (c.len.ensures ∙ c.args.inputs.ok.0))
     c.check_batches-records.ensures.stopped c.report.ensures

@@ -22,12 +22,12 @@ returns-clause-replayed g c =
 -- or the replay stopped
 pub returns-in_err-records-clause-stopped : goal.returns-in_err-records-clause-stopped
 returns-in_err-records-clause-stopped g c =
-    not_replayed g.R.InputReader.gives c.args.options.strict_values g.W.Workflow.program c.args.inputs.items c.args.mode c.args.console.now c.check_in_batches.new.console
+    not_replayed g.R.InputReader.gives c.args.options g.W.Workflow.program c.args.inputs.items c.args.mode c.args.console.now c.check_in_batches.new.console
     c.in_err-records.field-0.0 c.from_residual.result c.in_err-records.ensures.stopped c.from_residual.ensures.1
 
 -- or the report can't be put out
 pub returns-in-Err-clause-stopped : goal.returns-in-Err-clause-stopped
 returns-in-Err-clause-stopped g c =
-    replayed_cut g.R.InputReader.gives c.args.options.strict_values g.W.Workflow.program c.args.inputs.items c.args.mode c.in_ok-records.records.items
+    replayed_cut g.R.InputReader.gives c.args.options g.W.Workflow.program c.args.inputs.items c.args.mode c.in_ok-records.records.items
     c.args.console.now c.check_in_batches.new.console c.end_report.new.console c.in-Err.failure
     c.in_ok-records.ensures.found c.in_ok-records.ensures.told c.in-Err.ensures.cut

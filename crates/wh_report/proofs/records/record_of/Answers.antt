@@ -10,7 +10,7 @@ returns-in-Err g c =
     let program = g.W.Workflow.program in
     let own = c.no_memory.result in
     let within = subst (λ bytes. length bytes ≤ longest) c.as_slice.ensures.value
-    (parsed_within program c.as_slice.result.now c.found_in-finding.result.0.verdict c.found_in-finding.ensures.verdict c.in-Err.ensures.memory) in
-    no_memory_is c.args.strict program c.args.file own
+    (parsed_within program c.as_slice.result.now c.found_in-explanation.result.0.verdict c.found_in-explanation.ensures.verdict c.in-Err.ensures.memory) in
+    no_memory_is c.args.options program c.args.file own
     (subst (λ name. own.line ≡ record { name = name; verdict = OutOfMemory }) c.new-name.ensures c.no_memory.ensures.line)
     c.no_memory.ensures.detail c.no_memory.ensures.warnings within

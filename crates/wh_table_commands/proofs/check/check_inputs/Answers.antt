@@ -7,7 +7,7 @@ use Rattle.wh_table_commands.proofs.check.check_inputs.Goals as goal
 -- the files that are checked are those that the inputs were read as
 pub returns-clause-checked : goal.returns-clause-checked
 returns-clause-checked g c =
-    inputs_checked g.R.InputReader.gives g.M.MoreFindings.finds c.args.format c.args.listed.inputs.items c.args.listed.left_out c.lacks_files-lacks.result
+    inputs_checked g.R.InputReader.gives c.args.format c.args.listed.inputs.items c.args.listed.left_out c.lacks_files-lacks.result
     c.in_ok-files.files.items c.as_slice.result.now c.args.console.now c.check_files.new.console c.check_files.result
     c.in_ok-files.ensures.read c.as_slice.ensures.value c.lacks_files-lacks.ensures.lacks c.check_files.ensures.checked
 

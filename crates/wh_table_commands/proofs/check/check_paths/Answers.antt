@@ -10,7 +10,7 @@ use Rattle.wh_table_commands.proofs.check.check_paths.Goals as goal
 pub returns-clause-checked : goal.returns-clause-checked
 returns-clause-checked g c =
     let listed = c.in_ok-listed.listed in
-    done_listed (AreListed (is_by_path c.args.more.items) (c.args.first ∷ c.args.more.items)) (HasChecked IsReadFrom g.M.MoreFindings.finds c.args.format)
+    done_listed (AreListed (is_by_path c.args.more.items) (c.args.first ∷ c.args.more.items)) (HasChecked IsReadFrom c.args.format)
     listed.inputs.items listed.left_out c.args.console.now c.all_inputs.new.console c.check_inputs.new.console
     c.check_inputs.result c.in_ok-listed.ensures.listed c.check_inputs.ensures.checked
 

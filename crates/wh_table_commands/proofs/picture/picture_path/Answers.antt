@@ -6,7 +6,7 @@ use Rattle.wh_table_commands.proofs.picture.picture_path.Goals as goal
 -- the table is in the file at the path
 pub returns-clause-drawn : goal.returns-clause-drawn
 returns-clause-drawn g c =
-    carried_out g.R.InputReader.gives (HasDrawn g.M.MoreFindings.finds) c.args.path c.in_ok-file.file
+    carried_out g.R.InputReader.gives HasDrawn c.args.path c.in_ok-file.file
     c.args.console.now c.draw.new.console c.draw.result c.in_ok-file.ensures.read c.draw.ensures.drawn
 
 -- or its page can't be written

@@ -1,6 +1,6 @@
 use Rattle.std.proofs.Common.{◌∙◌, ap}
 use Rattle.std.specs.Prelude.{Err, Ok, string_bytes}
-use Rattle.wh_diagnostics.proofs.Printed.{fault_flushed, fault_why, output_failed, output_why}
+use Rattle.wh_diagnostics.proofs.Printed.{fault_flushed, output_failed}
 use Rattle.wh_table_commands.proofs.Steps.{trial_printed}
 use Rattle.wh_table_commands.proofs.trial.try_file.Goals as goal
 
@@ -19,14 +19,8 @@ returns-clause-refused g c =
     output_failed c.args.console.now c.print_trial.new.console c.flush_answer-2.new.console c.flush_answer-2.result
     c.in-Ok.ensures.quiet c.flush_answer-2.ensures.quiet c.flush_answer-2.ensures.failure
 
-pub returns-clause-why : goal.returns-clause-why
-returns-clause-why g c = output_why c.flush_answer-2.result c.flush_answer-2.ensures.failure
-
 -- or nothing came of it
 pub returns-in-Err-clause-refused : goal.returns-in-Err-clause-refused
 returns-in-Err-clause-refused g c =
     fault_flushed c.args.console.now c.print_trial.new.console c.flush_answer.new.console c.in-Err.fault c.flush_answer.result
     c.in-Err.ensures.quiet (λ is. c.in-Err.ensures.unwritten (ap Err is)) c.flush_answer.ensures.quiet c.flush_answer.ensures.kept c.flush_answer.ensures.failure
-
-pub returns-in-Err-clause-why : goal.returns-in-Err-clause-why
-returns-in-Err-clause-why g c = fault_why c.in-Err.fault c.flush_answer.result c.flush_answer.ensures.failure

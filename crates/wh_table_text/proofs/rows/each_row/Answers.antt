@@ -1,9 +1,10 @@
-use Rattle.std.proofs.Common.{sym, ap, ◌∙◌, ◌+◌, map, drop}
+use Rattle.std.proofs.Common.{sym, subst, ap, ◌∙◌, ◌+◌, map, drop}
 use Rattle.std.proofs.lemmas.Result.{err_from_is_err_and}
 use Rattle.serde_json.specs.View.{view}
-use Rattle.wh_table_text.specs.Outcome.{all_of}
+use Rattle.wh_or_memory.specs.Outcome.{all_of, StopsAt}
 use Rattle.wh_table_text.specs.Reading.{rows_from}
-use Rattle.wh_table_text.proofs.Outcomes.{with_front, row_on, row_stops, rows_all}
+use Rattle.wh_or_memory.proofs.Outcomes.{with_front}
+use Rattle.wh_table_text.proofs.Outcomes.{row_on, row_stops, rows_all}
 use Rattle.wh_table_text.proofs.rows.each_row.Goals as goal
 
 pub loop-index-preserved : goal.loop-index-preserved
@@ -19,4 +20,4 @@ returns c = sym c.loop-index.invariant ∙ rows_all c.args.names.now c.loop-inde
 pub returns-in_err-row : goal.returns-in_err-row
 returns-in_err-row c =
     let p = err_from_is_err_and c.from_residual.result c.from_residual.ensures.1 in
-    rw (p.1, p.2) (λ memory. sym c.loop-index.invariant ∙ row_stops c.args.names.now c.loop-index.rows.items c.args.values.now c.loop-index.index c.index-values-index.result c.in_err-row.field-0.0 c.loop-index-test.true c.index-values-index.is (c.in_err-row.ensures memory))
+    rw (p.1, p.2) (subst (StopsAt _) c.loop-index.invariant (row_stops c.args.names.now c.loop-index.rows.items c.args.values.now c.loop-index.index c.index-values-index.result c.in_err-row.field-0.0 c.loop-index-test.true c.index-values-index.is c.in_err-row.ensures))

@@ -1,9 +1,9 @@
 use Rattle.std.specs.List.{flat_map}
 use Rattle.std.specs.Fmt.{HasWritten, IsPlainFormatter}
-use Rattle.wh_view_report.specs.Cut.{shown_char}
+use Rattle.wh_view_report.specs.Cut.{shown_bytes}
 use Rattle.wh_view_report.proofs.cut.write_front.Given as goal
 
 -- the characters so far have been written
 abbrev pub invariant-loop-c : goal.invariant-loop-c
 invariant-loop-c g l =
-    IsPlainFormatter l.initial.f → HasWritten g.W.Write.write_str_gives l.initial.f (flat_map shown_char l.yielded) l.f
+    IsPlainFormatter l.initial.f → HasWritten g.W.Write.write_str_gives l.initial.f (flat_map shown_bytes l.yielded) l.f

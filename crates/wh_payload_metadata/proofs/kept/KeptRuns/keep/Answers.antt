@@ -1,10 +1,11 @@
 use Rattle.std.proofs.Common.{string_bytes, bytes_eq, inl, sym, ap, ◌∙◌}
 use Rattle.std.specs.Map.{lookup}
 use Rattle.serde_json.specs.View.{view}
-use Rattle.wh_payload_metadata.specs.Seen.{metadata_seen, is_nothing, started_header}
-use Rattle.wh_payload_metadata.specs.Kept.{metadata_in, header_in, kept_metadata, kept_header}
+use Rattle.wh_payload_metadata.specs.Header.{events_in}
+use Rattle.wh_payload_metadata.specs.Kept.{metadata_in, fields_in, kept_metadata, kept_fields}
 use Rattle.wh_payload_metadata.proofs.Lookups.{lookup-promoted, lookup-promoted_other, apart_names, nothing_metadata}
-use Rattle.wh_payload_metadata.proofs.Nothing.{quiet_after, no_header}
+use Rattle.wh_payload_metadata.proofs.Nothing.{quiet_after, nothing_header}
+use Rattle.wh_payload_metadata.proofs.Setting.{quiet_fields, no_header}
 use Rattle.wh_payload_metadata.proofs.kept.KeptRuns.keep.Goals as goal
 
 pub returns-then-is_empty-clause-metadata : goal.returns-then-is_empty-clause-metadata
@@ -21,10 +22,11 @@ pub returns-then-is_empty-clause-header : goal.returns-then-is_empty-clause-head
 returns-then-is_empty-clause-header c =
     let name = c.args.name.now in
     let runs = c.args.self.now.runs.entries in
-    let nothing = ap (is_nothing (metadata_seen c.args.noted)) (sym c.requires.header) ∙ sym c.if-is_empty.ensures in
-    ap (λ cache. header_in (lookup (λ k. bytes_eq name (string_bytes k)) cache.entries)) c.promote.ensures.entries
-    ∙ ap header_in (lookup-promoted (λ k. bytes_eq name (string_bytes k)) runs)
-    ∙ sym (no_header (started_header (view c.args.came.now)) (kept_header c.args.self.now name) (metadata_seen c.args.noted) nothing)
+    let nothing = nothing_header _ _ (sym c.if-is_empty.ensures) in
+    let none = sym c.requires.header ∙ no_header c.args.noted.header nothing in
+    ap (λ cache. fields_in (lookup (λ k. bytes_eq name (string_bytes k)) cache.entries)) c.promote.ensures.entries
+    ∙ ap fields_in (lookup-promoted (λ k. bytes_eq name (string_bytes k)) runs)
+    ∙ sym (quiet_fields (events_in (view c.args.came.now)) (kept_fields c.args.self.now name) none)
 
 pub returns-then-is_empty-clause-others : goal.returns-then-is_empty-clause-others
 returns-then-is_empty-clause-others c other differ =

@@ -1,6 +1,6 @@
 use Rattle.std.proofs.Common.{◌≡◌, true, IsSomeAnd, string_bytes, bytes_eq, inl, inr, subst, sym, ap, ◌∙◌}
 use Rattle.std.specs.Map.{lookup}
-use Rattle.wh_payload_metadata.specs.Kept.{metadata_in, header_in}
+use Rattle.wh_payload_metadata.specs.Kept.{metadata_in, fields_in}
 use Rattle.wh_payload_metadata.proofs.Lookups.{lookup-put_name, lookup-pushed}
 use Rattle.wh_payload_metadata.proofs.kept.KeptRuns.put.Goals as goal
 
@@ -13,8 +13,8 @@ returns-clause-metadata c =
 pub returns-clause-header : goal.returns-clause-header
 returns-clause-header c =
     let name = c.args.name.now in
-    ap (λ cache. header_in (lookup (λ k. bytes_eq name (string_bytes k)) cache.entries)) c.in_ok-displaced.ensures.entries
-    ∙ ap header_in (lookup-put_name c.args.self.now.runs name c.in_ok-key.key c.args.seen c.in_ok-key.ensures.ok)
+    ap (λ cache. fields_in (lookup (λ k. bytes_eq name (string_bytes k)) cache.entries)) c.in_ok-displaced.ensures.entries
+    ∙ ap fields_in (lookup-put_name c.args.self.now.runs name c.in_ok-key.key c.args.seen c.in_ok-key.ensures.ok)
 
 pub returns-clause-others : goal.returns-clause-others
 returns-clause-others c other differ =

@@ -1,0 +1,5 @@
+use Rattle.std.proofs.Common.{rules}
+use Rattle.wh_explained_tasks.proofs.Step.commands.Goals as goal
+
+pub returns : goal.returns
+returns c = search rules

@@ -1,0 +1,20 @@
+-- What holds of every axis, and of what a page shows.
+use Rattle.std.specs.Prelude.{◌≤◌, ℕ, List, length}
+use Rattle.wh_html.specs.declared.axis.Stop.{Stop}
+use Rattle.wh_html.specs.declared.page.Page.{Page}
+use Rattle.wh_html.specs.Views.{shown_tasks}
+use Rattle.wh_html.specs.Axes.{left, right, place_of, GoesRight}
+
+-- a later time never stands further left
+abbrev pub PlacesRise : Type 0
+PlacesRise =
+    (stops : List Stop) → GoesRight left stops → (earlier later : ℕ) → earlier ≤ later
+    → place_of stops earlier ≤ place_of stops later
+
+-- no time stands beyond the right end
+abbrev pub PlacesEnd : Type 0
+PlacesEnd = (stops : List Stop) → GoesRight left stops → (millis : ℕ) → place_of stops millis ≤ right
+
+-- a page shows 300 tasks at most
+abbrev pub TasksAreFew : Type 0
+TasksAreFew = (page : Page) → length (shown_tasks page) ≤ 300

@@ -1,0 +1,223 @@
+//! What a page shows.
+
+ghost use Rattle.std.specs.Prelude.{◌≡◌};
+ghost use Rattle.wh_html.specs.Words.{kind_word, outcome_class, side_word};
+
+use wh_events::{Items, Text};
+
+/// An event and its time.
+#[derive(Clone, Copy)]
+pub struct Moment {
+    /// The number of the event.
+    pub event: u64,
+    /// Milliseconds from 1970-01-01T00:00:00Z. A time after the year 9999 is shown as the end of
+    /// that year.
+    pub millis: u64,
+}
+
+/// The kind of a thing.
+#[derive(Clone, Copy)]
+pub enum Kind {
+    /// An activity.
+    Activity,
+    /// A timer.
+    Timer,
+    /// A child workflow.
+    Child,
+    /// A signal that the run received.
+    Signal,
+    /// A request to another workflow.
+    Request,
+    /// A marker.
+    Marker,
+}
+
+/// The outcome of a thing.
+#[derive(Clone, Copy)]
+pub enum ThingOutcome {
+    /// It has not ended.
+    Open,
+    /// It ended as intended.
+    Done,
+    /// It failed, timed out or was terminated.
+    Failed,
+    /// It was canceled.
+    Canceled,
+}
+
+/// How a thing stands in its row of the picture.
+#[derive(Clone, Copy)]
+pub enum RowPart {
+    /// Alone.
+    Alone,
+    /// As the first of several.
+    First {
+        /// How many stand there.
+        things: usize,
+        /// How many of these failed.
+        failed: usize,
+        /// How many of these are open.
+        pending: usize,
+    },
+    /// As a later one of several.
+    Later,
+}
+
+/// A thing that a run opened: a bar or a dot of the picture, and a row of the table.
+#[derive(Drop)]
+pub struct Lane {
+    /// Its kind.
+    pub kind: Kind,
+    /// Its id, or another name.
+    pub name: Text,
+    /// Its type, if it has one.
+    pub type_name: Option<Text>,
+    /// The event that opened it.
+    pub opened: Moment,
+    /// The event that started it, if there is one.
+    pub started: Option<Moment>,
+    /// The event that ended it; `None` while it is open, and if the event that opened it also ended
+    /// it.
+    pub ended: Option<Moment>,
+    /// Its outcome.
+    pub outcome: ThingOutcome,
+    /// Its outcome in words: `completed`, or the text of its failure.
+    pub words: Text,
+    /// How often it was attempted, if the history has that.
+    pub attempts: Option<u64>,
+    /// The row of the picture in which it stands, counted from 0.
+    pub row: usize,
+    /// How it stands there.
+    pub part: RowPart,
+}
+
+/// Which side a line of a task belongs to.
+#[derive(Clone, Copy)]
+pub enum Side {
+    /// The workflow was activated with it.
+    Told,
+    /// It is a command of the workflow.
+    Gives,
+    /// The history records it.
+    Recorded,
+    /// It has the fault.
+    Fault,
+    /// It is a note on the task.
+    Note,
+}
+
+/// A line of a task.
+#[derive(Drop)]
+pub struct TaskLine {
+    /// Its side.
+    pub side: Side,
+    /// The number of the event that it is about, if there is one.
+    pub event: Option<u64>,
+    /// Its text.
+    pub text: Text,
+}
+
+/// A workflow task.
+#[derive(Drop)]
+pub struct Task {
+    /// Its heading.
+    pub heading: Text,
+    /// The event that started it.
+    pub started: Moment,
+    /// Its lines.
+    pub lines: Items<TaskLine>,
+    /// Whether it is the one with the fault.
+    pub faulty: bool,
+}
+
+/// A name and a value, such as the workflow type.
+#[derive(Drop)]
+pub struct Fact {
+    /// The name, such as `Run id`.
+    pub name: Text,
+    /// The value.
+    pub value: Text,
+}
+
+/// Where the code and the history differ.
+#[derive(Drop)]
+pub struct Difference {
+    /// The number of the event at which they differ, if there is one.
+    pub event: Option<u64>,
+    /// What the code gives.
+    pub code: Text,
+    /// What the history has.
+    pub history: Text,
+}
+
+/// What a page shows.
+#[derive(Drop)]
+pub struct Page {
+    /// The title of the page: the file, or the run.
+    pub title: Text,
+    /// The verdict, in words.
+    pub verdict: Text,
+    /// Whether the verdict is good; `None` if nothing was replayed.
+    pub good: Option<bool>,
+    /// The workflow type, ids, counts and the like.
+    pub facts: Items<Fact>,
+    /// The first difference, if there is one.
+    pub difference: Option<Difference>,
+    /// The event of the fault, if there is one.
+    pub fault: Option<Moment>,
+    /// The things that the page shows, in the order of the events that opened them.
+    pub lanes: Items<Lane>,
+    /// How many rows of the picture they have.
+    pub rows: usize,
+    /// How many things the run opened in all.
+    pub things: usize,
+    /// The tasks, in the order of the events that started them.
+    pub tasks: Items<Task>,
+    /// What else a reader has to know, such as what is not supported.
+    pub notes: Items<Text>,
+}
+
+impl Kind {
+    /// Returns the kind in words.
+    pub fn word(self) -> &'static str
+        ensures { result.now ≡ kind_word self }
+    {
+        match self {
+            Kind::Activity => "activity",
+            Kind::Timer => "timer",
+            Kind::Child => "child",
+            Kind::Signal => "signal",
+            Kind::Request => "request",
+            Kind::Marker => "marker",
+        }
+    }
+}
+
+impl ThingOutcome {
+    /// Returns its class in the style sheet.
+    pub fn class(self) -> &'static str
+        ensures { result.now ≡ outcome_class self }
+    {
+        match self {
+            ThingOutcome::Open => "open",
+            ThingOutcome::Done => "done",
+            ThingOutcome::Failed => "failed",
+            ThingOutcome::Canceled => "canceled",
+        }
+    }
+}
+
+impl Side {
+    /// Returns the side in a word.
+    pub fn word(self) -> &'static str
+        ensures { result.now ≡ side_word self }
+    {
+        match self {
+            Side::Told => "told",
+            Side::Gives => "gives",
+            Side::Recorded => "recorded",
+            Side::Fault => "fault",
+            Side::Note => "note",
+        }
+    }
+}

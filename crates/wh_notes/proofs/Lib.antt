@@ -1,0 +1,4 @@
+pub mod Counting
+pub mod Adding
+pub mod Joining
+pub mod Waiting

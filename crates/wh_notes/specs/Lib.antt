@@ -1,0 +1,10 @@
+pub mod Sums
+pub mod Times
+pub mod Untaken
+pub mod Counts
+pub mod Notes
+pub mod Polls
+pub mod Tallies
+pub mod Troubles
+pub mod Waits
+pub mod Laws

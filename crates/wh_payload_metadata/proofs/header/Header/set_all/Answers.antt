@@ -1,0 +1,30 @@
+use Rattle.std.proofs.Common.{◌≡◌, [], ◌∷◌, string_cmp, subst, sym, ap, ◌∙◌, rules}
+use Rattle.std.specs.List.Sorted.{IsStrictlySortedBy}
+use Rattle.std.specs.Map.{keys_of}
+use Rattle.serde_json.specs.View.{view, members_view}
+use Rattle.serde_json.proofs.Views.{Entry}
+use Rattle.wh_payload_metadata.specs.Header.{field_set, fields_set, fields_of}
+use Rattle.wh_payload_metadata.proofs.Setting.{member_set, nothing_set}
+use Rattle.wh_payload_metadata.proofs.header.Header.set_all.Goals as goal
+
+pub loop-name-preserved : goal.loop-name-preserved
+unfolding IsStrictlySortedBy
+loop-name-preserved c =
+    let l = c.loop-name in
+    let number = c.args.number in
+    let e : Entry = (c.in-Some.name.now, c.in-Some.value.now) in
+    let rest = c.next.new.self in
+    let here = c.in-Some.ensures.steps in
+    let ordered : IsStrictlySortedBy string_cmp (keys_of (e ∷ rest)) = subst (λ es. IsStrictlySortedBy string_cmp (keys_of es)) here l.invariant.1 in (
+      ap (fields_set number (members_view rest)) (c.in_ok-set.ensures ∙ ap (λ name. field_set number name (view e.1) (fields_of l.self)) c.as_str.ensures.value)
+          ∙ member_set number e rest (fields_of l.self) ordered.0
+          ∙ ap (λ es. fields_set number (members_view es) (fields_of l.self)) (sym here) ∙ l.invariant.0,
+      ordered.1,
+    )
+
+pub returns : goal.returns
+returns c =
+    let l = c.loop-name in
+    let number = c.args.number in
+    let none : l.name-iterator ≡ [] = search rules in
+    sym (ap (λ es. fields_set number (members_view es) (fields_of l.self)) none ∙ nothing_set number (fields_of l.self)) ∙ l.invariant.0

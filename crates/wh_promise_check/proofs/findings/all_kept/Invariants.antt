@@ -1,8 +1,0 @@
-use Rattle.std.proofs.Common.{◌≡◌, drop}
-use Rattle.wh_promise_check.specs.Findings.{all_kept}
-use Rattle.wh_promise_check.proofs.findings.all_kept.Given as goal
-
--- each so far is kept
-abbrev pub invariant-loop-finding : goal.invariant-loop-finding
-invariant-loop-finding l =
-    all_kept (drop l.finding-index l.list) ≡ all_kept l.list

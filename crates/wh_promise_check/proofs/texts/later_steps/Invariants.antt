@@ -1,9 +1,0 @@
-use Rattle.std.proofs.Common.{◌≡◌, ◌++◌, drop}
-use Rattle.std.specs.Prelude.{string_bytes}
-use Rattle.wh_promise_check.specs.Texts.{later_steps}
-use Rattle.wh_promise_check.proofs.texts.later_steps.Given as goal
-
--- the lines so far and those of the rest are all
-abbrev pub invariant-loop-step : goal.invariant-loop-step
-invariant-loop-step l =
-    string_bytes l.text ++ later_steps (drop l.step-index l.steps) ≡ later_steps l.steps

@@ -1,0 +1,2 @@
+-- Definitions that no contract of a public item cites.
+pub mod Found

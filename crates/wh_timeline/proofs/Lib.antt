@@ -1,6 +1,0 @@
-pub mod Ways
-pub mod LaneBytes
-pub mod Rising
-pub mod WordsInner
-pub mod Drawn
-pub mod Shown

@@ -1,7 +1,0 @@
-use Rattle.std.proofs.Common.{◌≡◌, drop}
-use Rattle.wh_timeline.specs.Axes.{left, place_from}
-use Rattle.wh_timeline.proofs.axis.place_of.Given as goal
-
--- the time stands where the stops that are left say from here on
-abbrev pub invariant-loop-stop : goal.invariant-loop-stop
-invariant-loop-stop l = place_from left l.stops l.millis ≡ place_from l.x (drop l.stop-index l.stops) l.millis

@@ -1,8 +1,0 @@
-use Rattle.wh_timeline.proofs.Rising.{places_rise, places_end}
-use Rattle.wh_timeline.proofs.laws.places_rise.Goals as goal
-
-pub returns-clause-rise : goal.returns-clause-rise
-returns-clause-rise c = places_rise
-
-pub returns-clause-end : goal.returns-clause-end
-returns-clause-end c = places_end

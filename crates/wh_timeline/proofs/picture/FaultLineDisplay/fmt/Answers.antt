@@ -1,4 +1,0 @@
-use Rattle.wh_timeline.proofs.picture.FaultLineDisplay.fmt.Goals as goal
-
-pub returns-in-Some-clause-writes : goal.returns-in-Some-clause-writes
-returns-in-Some-clause-writes g c = rw c.in-Some.is (λ plain ok. rw c.place_of-x.ensures at (c.write.ensures.writes plain ok))

@@ -1,7 +1,0 @@
-pub mod Words
-pub mod Views
-pub mod Axes
-pub mod Lanes
-pub mod Pictures
-pub mod Without
-pub mod Laws
