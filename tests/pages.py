@@ -59,8 +59,9 @@ HIDES = re.compile(
     r"(?<![\w-])(?:display:\s*none|(?:content-)?visibility:\s*(?:hidden|collapse)"
     r"|(?:opacity|font-size):\s*0*\.?0*(?:%|[a-z]+)?\s*(?:$|[;!]))"
 )
-# How promises are marked on the page of a table.
-MARKS = {"kept": "&#10003; kept", "broken": "&#10007; broken", "undecided": "? not decided"}
+# How a promise is marked on the page of a table: its class and its words, by the verdict of `check --json`.
+MARKS = {"kept": ("kept", "&#10003; kept"), "broken": ("broken", "&#10007; broken"), "no promise": ("undecided", "? no promise")}
+NOT_DECIDED = ("undecided", "? not decided")
 STAMP = r"\d+-\d\d-\d\d \d\d:\d\d:\d\d(?:\.\d+)?"
 WIDTHS = {"wide": 1280, "narrow": 420}
 EVENTS = 51_200
@@ -486,12 +487,13 @@ def judge_promises(program, room):
         page, wrong = Page(html), []
         listed = json.loads(program.run("check", "--json", file).stdout.decode().splitlines()[0])["promises"]
         section = re.search(r'<h2>Promises</h2>\n<ol class="promises">\n(.*?)</ol>\n</section>', html, re.DOTALL)
-        given = re.findall(r'<li class="(kept|broken|undecided)"><span class="mark">(.*?)</span> <code>(.*?)</code>', section[1] if section else "")
-        words = {"kept": "kept", "broken": "broken"}
-        wanted = [words.get(one["verdict"], "undecided") for one in listed] if isinstance(listed, list) else ["undecided"]
-        if [found[0] for found in given] != wanted:
+        given = re.findall(r'<li class="([a-z]+)"><span class="mark">(.*?)</span> <code>.*?</code>', section[1] if section else "")
+        wanted = [MARKS.get(one["verdict"], NOT_DECIDED) for one in listed] if isinstance(listed, list) else []
+        if given != wanted:
             wrong.append(f"the page has {given}, check says {listed}")
-        wrong += [f"{found[0]} is marked {found[1]}" for found in given if found[1] != MARKS[found[0]]]
+        lone = re.search(r'<h2>Promises</h2>\n<p class="undecided"><span class="mark">\? not read</span> (.*?)</p>', html)
+        if (lone and lone[1]) != (None if isinstance(listed, list) else listed):
+            wrong.append(f"the page says {lone and lone[1]} of its promises, check {listed}")
         jobs = re.findall(r"<li><code>(.*?)</code>", section[1] if section else "")
         told = [step["job"] for one in listed for step in one.get("scenario", [])] if isinstance(listed, list) else []
         if jobs != told:
