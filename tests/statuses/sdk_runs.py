@@ -149,7 +149,7 @@ task 1: WorkflowTaskCompleted (event 4) 2024-05-01T10:00:00.000Z
       result {"valid":true}
   gives ActivityTaskScheduled 9 ChargeCard (event 9) 2024-05-01T10:00:00.000Z, started (event 10), ended (event 11)
       binary/encrypted, 300 bytes
-  has ActivityTaskStarted 9 ChargeCard (event 10) 2024-05-01T10:14:00.000Z, opened (event 9), waited 14 min, attempt 3, because HTTP 503
+  has ActivityTaskStarted 9 ChargeCard (event 10) 2024-05-01T10:14:00.000Z, opened (event 9), waited 14 min, attempt 3, after HTTP 503
   told ActivityTaskFailed 9 ChargeCard (event 11) 2024-05-01T10:19:33.000Z, opened (event 9), took 5 min 33 s, because ServiceUnavailable: activity error <- HTTP 503 <- connect ECONNREFUSED, retry state RETRY_STATE_MAXIMUM_ATTEMPTS_REACHED
 task 2: WorkflowTaskCompleted (event 14) 2024-05-01T10:19:33.000Z
   gives WorkflowExecutionFailed (event 15) 2024-05-01T10:19:33.000Z, because Activity task failed <- ServiceUnavailable: HTTP 503, retry state RETRY_STATE_RETRY_POLICY_NOT_SET
@@ -242,7 +242,7 @@ can't be replayed here: MarkerRecorded core_patch, 1 events, first (event 5)
 can't be replayed here: MarkerRecorded core_local_activity, 1 events, first (event 7)
 can't be replayed here: WorkflowExecutionUpdateAccepted, 1 events, first (event 14)
 can't be replayed here: WorkflowExecutionUpdateCompleted, 1 events, first (event 15)
-running; waits for timer 1 (event 8) since 2024-05-01T10:00:00.000Z until 2024-05-15 10:00:00 UTC; waits for child receipt-3 receipt (event 9) since 2024-05-01T10:00:00.000Z, started (event 10) 2024-05-01T10:00:00.250Z; waits for activity 2 sendReceipt (event 16) since 2024-05-01T10:00:01.000Z, not started; waits for a workflow task (event 18) since 2024-05-01T10:00:02.000Z, not started
+running; waits for timer 1 (event 8) since 2024-05-01T10:00:00.000Z until 2024-05-15 10:00:00 UTC; waits for child receipt-3 receipt (event 9) since 2024-05-01T10:00:00.000Z, started (event 10) 2024-05-01T10:00:00.250Z; waits for activity 2 sendReceipt (event 16) since 2024-05-01T10:00:01.000Z; waits for a workflow task (event 18) since 2024-05-01T10:00:02.000Z, not started
 """
 # What its last objects say, and its first one of the run.
 TYPESCRIPT_WAITS = """{"waits":"timer","id":"1","opened":8,"since":"2024-05-01T10:00:00.000Z","until":"2024-05-15 10:00:00Z"}
@@ -332,6 +332,7 @@ PYTHON = history(
     ("WorkflowTaskScheduled", 0),
     ("WorkflowTaskStarted", 1),
     ("WorkflowTaskTimedOut", 11, {"scheduledEventId": "2", "startedEventId": "3", "timeoutType": "TIMEOUT_TYPE_START_TO_CLOSE"}),
+    ("WorkflowExecutionSignaled", 11, {"signalName": "approve"}),
     ("WorkflowTaskScheduled", 11),
     ("WorkflowTaskStarted", 12),
     (
@@ -342,23 +343,25 @@ PYTHON = history(
             "failure": {"message": "Nondeterminism", "applicationFailureInfo": {"type": "NondeterminismError"}},
         },
     ),
-    ("WorkflowTaskScheduled", 13),
-    ("WorkflowTaskStarted", 14),
 )
-PYTHON_TEXT = """Approve: 9 events, 0 tasks completed, 0 things
+PYTHON_TEXT = """Approve: 8 events, 0 tasks completed, 1 things
 workflow id not recorded, run id not recorded, Task Queue approvals, no parent
 Running
   told WorkflowExecutionStarted Approve (event 1) 2024-05-01T10:00:00.000Z
   has WorkflowTaskTimedOut (event 4) 2024-05-01T10:00:11.000Z, timeout TIMEOUT_TYPE_START_TO_CLOSE
-  has WorkflowTaskFailed (event 7) 2024-05-01T10:00:13.000Z, because NondeterminismError: Nondeterminism, cause WORKFLOW_TASK_FAILED_CAUSE_NON_DETERMINISTIC_ERROR
-running; waits for a workflow task (event 8) since 2024-05-01T10:00:13.000Z, started (event 9) 2024-05-01T10:00:14.000Z
+  told WorkflowExecutionSignaled approve (event 5) 2024-05-01T10:00:11.000Z
+  has WorkflowTaskFailed (event 8) 2024-05-01T10:00:13.000Z, because NondeterminismError: Nondeterminism, cause WORKFLOW_TASK_FAILED_CAUSE_NON_DETERMINISTIC_ERROR
+running; waits for a workflow task (event 6) since 2024-05-01T10:00:11.000Z, failed (event 8) 2024-05-01T10:00:13.000Z, tried again
 """
-PYTHON_AROUND = """Approve: 9 events, 0 tasks completed, 0 things
+PYTHON_AROUND = """Approve: 8 events, 0 tasks completed, 1 things
 workflow id not recorded, run id not recorded, Task Queue approvals, no parent
 Running
-no event 999, the last is (event 9)
-9 events of other tasks are left out
-running; waits for a workflow task (event 8) since 2024-05-01T10:00:13.000Z, started (event 9) 2024-05-01T10:00:14.000Z
+no event 999, the last is (event 8)
+8 events of other tasks are left out
+running; waits for a workflow task (event 6) since 2024-05-01T10:00:11.000Z, failed (event 8) 2024-05-01T10:00:13.000Z, tried again
+"""
+# Its last object as JSON.
+PYTHON_WAITS = """{"waits":"workflowTask","opened":6,"failed":8,"since":"2024-05-01T10:00:11.000Z"}
 """
 
 
@@ -375,4 +378,5 @@ def sdk_runs(room):
         ([*show, "--json", "--last", "1", f"{folder}/typescript.json"], 0, Like(f"*{TYPESCRIPT_WAITS}"), ""),
         ([*show, "--json", "--last", "1", f"{folder}/go.json"], 0, Like(f"{GO_RUN}*"), ""),
         ([*show, "--around", "999", f"{folder}/python.json"], 0, PYTHON_AROUND, ""),
+        ([*show, "--json", f"{folder}/python.json"], 0, Like(f"*{PYTHON_WAITS}"), ""),
     ]

@@ -34,7 +34,7 @@ task 4: WorkflowTaskCompleted (event 4) 2024-05-01T10:00:04Z
 task 5: WorkflowTaskCompleted (event 5) 2024-05-01T10:00:05Z
 task 6: WorkflowTaskCompleted (event 6) 2024-05-01T10:00:06Z
 2 events of other tasks are left out
-running; nothing that it started is open
+running; no activity, timer, child workflow, request or workflow task is open
 """
 VIEWED_AS_JSON = """{"events":7,"tasks":7,"things":0,"run":{"status":"Running"}}
 {"place":7,"event":7,"task":7,"is":"completes","recorded":{"eventId":"7","eventTime":"2024-05-01T10:00:07Z","eventType":"WorkflowTaskCompleted"}}

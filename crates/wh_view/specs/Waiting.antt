@@ -10,14 +10,18 @@ abbrev pub started_at : Option OpenTask → ℕ → Option OpenTask
 started_at None index = None
 started_at (Some task) index = Some (record task { started = Some index })
 
--- the open workflow task after an event of the kind at the index: one that is scheduled is open until it is completed,
--- failed or timed out
+-- the open workflow task, after it failed or timed out at the index: the server tries it again
+abbrev pub failed_at : Option OpenTask → ℕ → Option OpenTask
+failed_at None index = None
+failed_at (Some task) index = Some (record task { started = None; failed = Some index })
+
+-- the open workflow task after an event of the kind at the index: one that is scheduled is open until it is completed
 abbrev pub task_after : Option OpenTask → ℕ → Option EventKind → Option OpenTask
-task_after current index (Some WorkflowTaskScheduled) = Some (record { scheduled = index; started = None })
+task_after current index (Some WorkflowTaskScheduled) = Some (record { scheduled = index; started = None; failed = None })
 task_after current index (Some WorkflowTaskStarted) = started_at current index
 task_after current index (Some WorkflowTaskCompleted) = None
-task_after current index (Some WorkflowTaskFailed) = None
-task_after current index (Some WorkflowTaskTimedOut) = None
+task_after current index (Some WorkflowTaskFailed) = failed_at current index
+task_after current index (Some WorkflowTaskTimedOut) = failed_at current index
 task_after current index _ = current
 
 -- the open workflow task after further events, the first of them at the index

@@ -131,13 +131,17 @@ pub enum RunStatus {
     ContinuedAsNew,
 }
 
-/// A workflow task that was scheduled, and is not completed, failed or timed out.
+/// A workflow task that was scheduled, and is not completed. The server tries one that failed or timed out again, and
+/// records further attempts only with the one that completes it, or where other events came in between (Temporal
+/// documentation, "Events").
 #[derive(Clone, Copy, Debug)]
 pub struct OpenTask {
     /// The index of the event that scheduled it.
     pub scheduled: usize,
-    /// The index of the event that says that a worker has started it.
+    /// The index of the event that says that a worker has started it, since it last failed or timed out.
     pub started: Option<usize>,
+    /// The index of the last event that says that it failed or timed out.
+    pub failed: Option<usize>,
 }
 
 /// The kind of a thing.

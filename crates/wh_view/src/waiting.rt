@@ -14,6 +14,21 @@ fn started_at(current: Option<OpenTask>, index: usize) -> Option<OpenTask>
         Some(task) => Some(OpenTask {
             scheduled: task.scheduled,
             started: Some(index),
+            failed: task.failed,
+        }),
+        None => None,
+    }
+}
+
+/// Returns the open workflow task, after it failed or timed out at the index.
+fn failed_at(current: Option<OpenTask>, index: usize) -> Option<OpenTask>
+    ensures { result ≡ waiting.failed_at current index }
+{
+    match current {
+        Some(task) => Some(OpenTask {
+            scheduled: task.scheduled,
+            started: None,
+            failed: Some(index),
         }),
         None => None,
     }
@@ -27,13 +42,13 @@ fn task_after(current: Option<OpenTask>, index: usize, kind: &Option<EventKind>)
         Some(EventKind::WorkflowTaskScheduled) => Some(OpenTask {
             scheduled: index,
             started: None,
+            failed: None,
         }),
         Some(EventKind::WorkflowTaskStarted) => started_at(current, index),
-        Some(
-            EventKind::WorkflowTaskCompleted
-            | EventKind::WorkflowTaskFailed
-            | EventKind::WorkflowTaskTimedOut,
-        ) => None,
+        Some(EventKind::WorkflowTaskCompleted) => None,
+        Some(EventKind::WorkflowTaskFailed | EventKind::WorkflowTaskTimedOut) => {
+            failed_at(current, index)
+        }
         _ => current,
     }
 }
@@ -54,7 +69,8 @@ impl View {
     ghost use Rattle.std.specs.Prelude.{◌≡◌};
     ghost use Rattle.wh_view.specs.Waiting.{open_task};
 
-    /// Returns the workflow task that is scheduled, and is not completed, failed or timed out.
+    /// Returns the workflow task that was scheduled last, if it is not completed. One that failed or timed out is open,
+    /// since the server tries it again.
     pub fn open_task(&self) -> Option<OpenTask>
         ensures { result ≡ open_task self.now.events }
     {

@@ -1,6 +1,8 @@
 -- Why something failed: the failure and its causes.
-use Rattle.std.specs.Prelude.{ℕ, List, [], ◌∷◌, ◌++◌, codes}
+use Rattle.std.specs.Prelude.{ℕ, List, [], ◌∷◌, ◌++◌, codes, Option, Some}
 use Rattle.std.specs.List.{flat_map}
+use Rattle.wh_events.specs.declared.kind.EventKind.{EventKind}
+use Rattle.wh_events.specs.declared.kind.EventKind.TheVariants.{ActivityTaskStarted}
 use Rattle.wh_view.specs.declared.view.ViewedEvent.{ViewedEvent}
 use Rattle.wh_view.specs.declared.view.ViewedFailure.{ViewedFailure}
 use Rattle.wh_view_report.specs.Cut.{cut, label_text}
@@ -18,11 +20,16 @@ failure_text failure = typed_message failure.kind failure.message
 abbrev pub cause_text : ViewedFailure → List ℕ
 cause_text failure = codes " <- " ++ failure_text failure
 
+-- what stands before a failure: the start of an activity tells that of the attempt before
+abbrev pub reason_label : Option EventKind → List ℕ
+reason_label (Some (ActivityTaskStarted _)) = codes ", after "
+reason_label _ = codes ", because "
+
 -- why an event failed: the failure, its causes, and the cause in Temporal's words; or else the reason that it gives
 abbrev pub because_by : List ViewedFailure → ViewedEvent → List ℕ
-because_by [] event = label_text (codes ", because ") event.failure
+because_by [] event = label_text (reason_label event.read.kind) event.failure
 because_by (failure ∷ others) event =
-    codes ", because " ++ (failure_text failure ++ (flat_map cause_text others
+    reason_label event.read.kind ++ (failure_text failure ++ (flat_map cause_text others
     ++ label_text (codes ", cause ") event.details.ending.cause))
 
 unfoldable pub because_text : ViewedEvent → List ℕ

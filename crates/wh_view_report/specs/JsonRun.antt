@@ -66,7 +66,8 @@ task_at view task None = []
 task_at view task (Some event) =
     codes "{\"waits\":\"workflowTask\",\"opened\":" ++ (decimal event.place
     ++ (place_member (codes "started") (place_at view task.started)
-    ++ (text_member (codes "since") event.moment ++ codes "}\n")))
+    ++ (place_member (codes "failed") (place_at view task.failed)
+    ++ (text_member (codes "since") event.moment ++ codes "}\n"))))
 
 abbrev pub task_object : View → OpenTask → List ℕ
 task_object view task = task_at view task (slice_get view.events task.scheduled)

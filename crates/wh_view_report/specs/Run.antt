@@ -1,5 +1,7 @@
 -- The lines of a run: its names, and whether it is open.
-use Rattle.std.specs.Prelude.{ℕ, List, [], ◌∷◌, ◌++◌, codes, Option, Some, None, option_and_then}
+use Rattle.std.specs.Prelude.{ℕ, List, [], ◌∷◌, ◌++◌, codes, Bool, true, false, if◌then◌else◌, Option, Some, None, option_and_then}
+use Rattle.wh_events.specs.declared.kind.EventKind.{EventKind}
+use Rattle.wh_events.specs.declared.kind.EventKind.TheVariants.{WorkflowExecutionStarted}
 use Rattle.wh_view.specs.Lookups.{index_of}
 use Rattle.wh_view.specs.Runs.{closing_in, status_of}
 use Rattle.wh_view.specs.Times.{span_between}
@@ -48,10 +50,22 @@ status_word statuses.Terminated = codes "Terminated"
 status_word statuses.TimedOut = codes "TimedOut"
 status_word statuses.ContinuedAsNew = codes "ContinuedAsNew"
 
--- how long a run took, from its first event to the one that closes it
+-- the kind is that of the event that starts a run
+abbrev pub is_start : Option EventKind → Bool
+is_start (Some (WorkflowExecutionStarted _ _)) = true
+is_start _ = false
+
+-- a list of events begins with the one that starts the run
+abbrev pub has_start : List ViewedEvent → Bool
+has_start [] = false
+has_start (event ∷ events) = is_start event.read.kind
+
+-- how long a run took, from the event that starts it, the first one, to the one that closes it
 abbrev pub run_span : View → Option ℕ
 run_span view =
-    option_and_then (λ event. span_between view (Some 0) (Some (index_of event))) (closing_in view.events)
+    if has_start view.events
+    then option_and_then (λ event. span_between view (Some 0) (Some (index_of event))) (closing_in view.events)
+    else None
 
 -- what follows the status of a run that an event closes
 abbrev pub closing_text : View → Option ViewedEvent → List ℕ

@@ -1,6 +1,8 @@
 -- What an open run waits for.
 use Rattle.std.specs.Prelude.{ℕ, List, [], ◌∷◌, ◌++◌, codes, Bool, true, is_some, is_none, Option, Some, None, slice_get, if◌then◌else◌}
 use Rattle.std.specs.List.{flat_map, list_any}
+use Rattle.wh_events.specs.declared.kind.EventKind.{EventKind}
+use Rattle.wh_events.specs.declared.kind.EventKind.TheVariants.{WorkflowTaskTimedOut}
 use Rattle.wh_html.specs.Times.{stamp_text}
 use Rattle.wh_view.specs.Lookups.{event_id, event_type}
 use Rattle.wh_view.specs.Runs.{status_of}
@@ -42,9 +44,10 @@ abbrev pub started_text : View → Option ℕ → List ℕ
 started_text view None = codes ", not started"
 started_text view (Some index) = start_at (slice_get view.events index)
 
--- what is told of the start of a thing: nothing but for an activity and a child
+-- what is told of the start of a thing: of a child whether it has started, of an activity that, if it is recorded
 abbrev pub start_by : ThingKind → View → Option ℕ → List ℕ
-start_by kinds.Activity view started = started_text view started
+start_by kinds.Activity view None = []
+start_by kinds.Activity view (Some index) = started_text view (Some index)
 start_by kinds.Child view started = started_text view started
 start_by _ view started = []
 
@@ -67,12 +70,36 @@ open_at view thing (Some event) = open_thing view thing event
 abbrev pub thing_text : View → ViewedThing → List ℕ
 thing_text view thing = if is_some thing.ended then [] else open_at view thing (slice_get view.events thing.opened)
 
+-- how an attempt of a workflow task ended, by the kind of the event that says so
+abbrev pub end_word : Option EventKind → List ℕ
+end_word (Some WorkflowTaskTimedOut) = codes "timed out"
+end_word _ = codes "failed"
+
+-- that the last attempt of a workflow task ended with the event
+abbrev pub end_at : Option ViewedEvent → List ℕ
+end_at None = []
+end_at (Some event) =
+    codes ", " ++ (end_word event.read.kind ++ (codes " " ++ (number_text event
+    ++ (label_text (codes " ") event.moment ++ codes ", tried again"))))
+
+abbrev pub failed_text : View → ℕ → List ℕ
+failed_text view index = end_at (slice_get view.events index)
+
+-- what is told of the attempts of a workflow task: that the last one ended, or else whether a worker has started it
+abbrev pub attempt_by : View → (started : Option ℕ) → (failed : Option ℕ) → List ℕ
+attempt_by view None (Some index) = failed_text view index
+attempt_by view None None = started_text view None
+attempt_by view (Some index) failed = started_text view (Some index)
+
+abbrev pub attempt_text : View → OpenTask → List ℕ
+attempt_text view task = attempt_by view task.started task.failed
+
 -- that a run waits for a workflow task, which the event scheduled
 abbrev pub task_at : View → OpenTask → Option ViewedEvent → List ℕ
 task_at view task None = []
 task_at view task (Some event) =
     codes "; waits for a workflow task " ++ (number_text event ++ (label_text (codes " since ") event.moment
-    ++ started_text view task.started))
+    ++ attempt_text view task))
 
 abbrev pub task_text : View → Option OpenTask → List ℕ
 task_text view None = []
@@ -90,7 +117,7 @@ is_waiting view = waits_with (open_task view.events) view.things
 abbrev pub end_text : View → List ℕ
 end_text view =
     if is_waiting view then task_text view (open_task view.events) ++ 10 ∷ []
-    else codes "; nothing that it started is open\n"
+    else codes "; no activity, timer, child workflow, request or workflow task is open\n"
 
 -- what an open run waits for, and the end of the line
 abbrev pub items_text : View → List ℕ

@@ -7,6 +7,7 @@ ghost use Rattle.wh_view_report.specs.Causes as causes;
 
 use crate::cut::{Excerpt, LabelText};
 use std::fmt;
+use wh_events::EventKind;
 use wh_view::{ViewedEvent, ViewedFailure};
 
 /// A failure: its type, if it has one, and its message.
@@ -52,6 +53,16 @@ impl fmt::Display for CauseTexts<'_> {
     }
 }
 
+/// Returns what stands before a failure: the start of an activity tells that of the attempt before.
+fn reason_label(event: &ViewedEvent) -> &'static str
+    ensures { result.now ≡ causes.reason_label event.now.read.kind }
+{
+    match event.read.kind {
+        Some(EventKind::ActivityTaskStarted { .. }) => ", after ",
+        _ => ", because ",
+    }
+}
+
 /// Why something failed, after other words; nothing if the event does not tell of a failure.
 #[derive(Drop)]
 pub(crate) struct Because<'a>(pub(crate) &'a ViewedEvent);
@@ -63,14 +74,15 @@ impl fmt::Display for Because<'_> {
     fn fmt<W: fmt::Write>(&self, f: &mut fmt::Formatter<W>) -> fmt::Result {
         match self.0.details.failures.get() {
             [] => {
-                let reason = LabelText(", because ", self.0.failure.get());
+                let reason = LabelText(reason_label(self.0), self.0.failure.get());
                 write!(f, "{reason}")
             }
             [first, others @ ..] => {
+                let label = reason_label(self.0);
                 let first = FailureText(first);
                 let others = CauseTexts(others);
                 let cause = LabelText(", cause ", self.0.details.ending.cause.get());
-                write!(f, ", because {first}{others}{cause}")
+                write!(f, "{label}{first}{others}{cause}")
             }
         }
     }

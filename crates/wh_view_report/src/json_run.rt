@@ -129,10 +129,11 @@ fn write_open_task<O: Write>(view: &View, task: OpenTask, writer: &mut O) -> io:
     };
     let place = event.place;
     let started = PlaceMember("started", place_at(view, task.started));
+    let failed = PlaceMember("failed", place_at(view, task.failed));
     let since = TextMember("since", event.moment.get());
     write!(
         writer,
-        "{{\"waits\":\"workflowTask\",\"opened\":{place}{started}{since}}}\n"
+        "{{\"waits\":\"workflowTask\",\"opened\":{place}{started}{failed}{since}}}\n"
     )
 }
 

@@ -10,6 +10,7 @@ use crate::spans::LabelSpan;
 use crate::words::Number;
 use std::io::Write;
 use std::{fmt, io};
+use wh_events::EventKind;
 use wh_view::{RunNames, RunStatus, View};
 
 /// A name, or that it is not recorded.
@@ -98,11 +99,27 @@ pub fn status_word(status: RunStatus) -> &'static str
     }
 }
 
+/// Returns whether a list of events begins with the one that starts the run.
+fn has_start(events: &[ViewedEvent]) -> bool
+    ensures { result ≡ run.has_start events.now }
+{
+    match events.first() {
+        Some(event) => matches!(
+            event.read.kind,
+            Some(EventKind::WorkflowExecutionStarted { .. })
+        ),
+        None => false,
+    }
+}
+
 /// Returns how long a run took, in milliseconds, from its first event to the one that closes it.
-/// `None` if it is open, or a time is not known.
+/// `None` if it is open, a time is not known, or the history does not begin with the start of the run.
 pub fn run_span(view: &View) -> Option<u64>
     ensures { result ≡ run.run_span view.now }
 {
+    if !has_start(view.events.get()) {
+        return None;
+    }
     let closing = view.closing_event()?;
     view.span_between(Some(0), Some(closing.index()))
 }

@@ -9,6 +9,7 @@ use crate::cut::LabelText;
 use crate::words::Number;
 use std::io::Write;
 use std::{fmt, io};
+use wh_events::EventKind;
 use wh_html::Stamp;
 use wh_view::{OpenTask, RunStatus, ThingKind, View, ViewedEvent, ViewedThing};
 
@@ -67,8 +68,8 @@ impl fmt::Display for StartedText<'_> {
     }
 }
 
-/// What is told of the start of a thing that a run waits for: nothing but for an activity and a
-/// child.
+/// What is told of the start of a thing that a run waits for: of a child whether it has started; of an activity that, if
+/// it is recorded, since the start of one that may be tried again is recorded with its end; else nothing.
 #[derive(Drop)]
 struct ThingStart<'a>(&'a View, &'a ViewedThing);
 
@@ -77,6 +78,7 @@ impl fmt::Display for ThingStart<'_> {
 
     fn fmt<W: fmt::Write>(&self, f: &mut fmt::Formatter<W>) -> fmt::Result {
         match self.1.kind {
+            ThingKind::Activity if self.1.started.is_none() => Ok(()),
             ThingKind::Activity | ThingKind::Child => {
                 let started = StartedText(self.0, self.1.started);
                 write!(f, "{started}")
@@ -138,6 +140,58 @@ fn write_things<O: Write>(view: &View, writer: &mut O) -> io::Result<()>
     Ok(())
 }
 
+/// Returns how an attempt of a workflow task ended, by the kind of the event that says so.
+fn end_word(kind: &Option<EventKind>) -> &'static str
+    ensures { result.now ≡ waits.end_word kind.now }
+{
+    match kind {
+        Some(EventKind::WorkflowTaskTimedOut) => "timed out",
+        _ => "failed",
+    }
+}
+
+/// That the last attempt of a workflow task failed or timed out, and when, by the event of that.
+#[derive(Drop)]
+struct FailedText<'a>(&'a View, usize);
+
+impl fmt::Display for FailedText<'_> {
+    ghost output = { λ t. Some (waits.failed_text t.0.now t.1) };
+
+    fn fmt<W: fmt::Write>(&self, f: &mut fmt::Formatter<W>) -> fmt::Result {
+        match self.0.events.get().get(self.1) {
+            Some(event) => {
+                let word = end_word(&event.read.kind);
+                let number = Number(event);
+                let moment = LabelText(" ", event.moment.get());
+                write!(f, ", {word} {number}{moment}, tried again")
+            }
+            None => Ok(()),
+        }
+    }
+}
+
+/// What is told of the attempts of a workflow task that a run waits for: that the last one failed or timed out, or else
+/// whether a worker has started it.
+#[derive(Drop)]
+struct AttemptText<'a>(&'a View, OpenTask);
+
+impl fmt::Display for AttemptText<'_> {
+    ghost output = { λ t. Some (waits.attempt_text t.0.now t.1) };
+
+    fn fmt<W: fmt::Write>(&self, f: &mut fmt::Formatter<W>) -> fmt::Result {
+        match (self.1.started, self.1.failed) {
+            (None, Some(index)) => {
+                let failed = FailedText(self.0, index);
+                write!(f, "{failed}")
+            }
+            (started, _) => {
+                let started = StartedText(self.0, started);
+                write!(f, "{started}")
+            }
+        }
+    }
+}
+
 /// That a run waits for a workflow task.
 #[derive(Drop)]
 struct TaskText<'a>(&'a View, Option<OpenTask>);
@@ -153,8 +207,8 @@ impl fmt::Display for TaskText<'_> {
             Some(event) => {
                 let number = Number(event);
                 let since = LabelText(" since ", event.moment.get());
-                let started = StartedText(self.0, task.started);
-                write!(f, "; waits for a workflow task {number}{since}{started}")
+                let attempts = AttemptText(self.0, task);
+                write!(f, "; waits for a workflow task {number}{since}{attempts}")
             }
             None => Ok(()),
         }
@@ -190,7 +244,10 @@ fn write_end<O: Write>(view: &View, writer: &mut O) -> io::Result<()>
     ensures { OnOk result (Appends (O.contents writer.old) (O.contents writer.new) (waits.end_text view.now)) }
 {
     if !is_waiting(view) {
-        return write!(writer, "; nothing that it started is open\n");
+        return write!(
+            writer,
+            "; no activity, timer, child workflow, request or workflow task is open\n"
+        );
     }
     let task = TaskText(view, view.open_task());
     write!(writer, "{task}\n")

@@ -338,7 +338,7 @@ workflow id not recorded, run id not recorded, Task Queue not recorded, no paren
 Running
   told WorkflowExecutionStarted Nope (event 1) 2024-05-01T10:00:01Z
 task 1: WorkflowTaskCompleted (event 4) 2024-05-01T10:00:04Z
-running; nothing that it started is open
+running; no activity, timer, child workflow, request or workflow task is open
 status 1
 
 nap/5 timer_fired:3

@@ -73,7 +73,7 @@ task 1: WorkflowTaskCompleted (event 4) 2024-05-01T10:00:04Z
 can't be replayed here: EVENT_TYPE_SOMETHING_NEW, 3 events, first (event 5)
 can't be replayed here: MarkerRecorded LocalActivity, 2 events, first (event 6)
 can't be replayed here: MarkerRecorded SideEffect, 1 events, first (event 8)
-running; nothing that it started is open";
+running; no activity, timer, child workflow, request or workflow task is open";
 
 /// A history in which kinds of events are not supported.
 const UNSUPPORTED: &str = "start:X S T C unknown marker:Side\\\\Effect unknown marker:Local";
@@ -160,7 +160,7 @@ const LONG_TEXT: &str = "\
 workflow id not recorded, run id not recorded, Task Queue not recorded, no parent
 Running
   told WorkflowExecutionSignaled aaaaaaaaaaaaaaaaaaaaaaaaaaaaaaaaaaaaaaaaaaaaaaaaaaaaaaaaaaaaaaaaaaaaaaaaaaaaaaaa.. (70000 characters) (event 7) 2024-05-01T10:00:07Z
-running; nothing that it started is open
+running; no activity, timer, child workflow, request or workflow task is open
 ";
 
 /// The text of a view.
