@@ -11,6 +11,8 @@ for white space.
 The map of docs/change/ARCHITECTURE.md has each crate of crates.txt once, in the same groups and the same order, and its arrows
 say what the groups stand on; in crates.txt each crate comes after those that it stands on.
 
+The minutes that docs/use/USAGE.md gives for the first build of each program are those that follow from costs.txt.
+
     tests/claims.py
 
 The last line is `N tried, M wrong`, and the status is 1 where one is wrong."""
@@ -21,6 +23,9 @@ import sys
 
 import rust_items
 from rows import TOP, try_rows, words_of
+
+sys.path.insert(0, str(TOP))
+import launcher
 from rust_items import body_of, past_braces
 
 code_of = functools.cache(rust_items.code_of)
@@ -32,6 +37,8 @@ LINK = re.compile(r"\]\(([^)#:]*)(?:#([\w-]+))?\)")
 QUOTED = re.compile(r"^```\w+ (\S+)\n(.*?)^```$", re.DOTALL | re.MULTILINE)
 # What a recipe names: a crate, or a file.
 NAMED = re.compile(r"`([\w/]+\.(?:rt|antt|py|txt|toml|yaml|c))`|\b([a-z]+(?:_[a-z]+)+)\b")
+# The row of a program: its minutes on four processors, and on two.
+TIMED = re.compile(r"^\|.*\| `(\w+)`[^|]*\| (\d+) \| (\d+) \|$", re.MULTILINE)
 # Where the files of a crate are, and those of no crate.
 PLACES = ("src", "specs", ".")
 # What a type parameter or a ghost item may be called in backticks, without being an item of its own.
@@ -251,6 +258,16 @@ def claims_of_map(page):
         yield f"the arrow {' --> '.join(one)}", None if one in wanted & arrows else why
 
 
+def claims_of_times(page):
+    """Yields the minutes that a page gives for the first build of each program, with what is wrong with them."""
+    for program, *given in TIMED.findall(page):
+        crates = launcher.crates_of(program)
+        costs, below = launcher.costs_of(crates), {crate.name: {one.name for one in crate.below} for crate in crates}
+        wanted = [f"{launcher.simulated(costs, below, lanes) / 60:.0f}" for lanes in (4, 2)]
+        why = f"it has {' and '.join(given)} minutes, by costs.txt these are {' and '.join(wanted)}"
+        yield f"the first build of {program}", None if given == wanted else why
+
+
 def claims_of_all(file):
     """Yields each link and each quotation of a page, with what is wrong with it."""
     page = file.read_text(encoding="utf-8")
@@ -268,6 +285,8 @@ def claims():
         yield f"CHANGING.md: {name}", wrong_file(name, crate)
     for what, why in claims_of_map((TOP / "docs/change/ARCHITECTURE.md").read_text(encoding="utf-8")):
         yield f"ARCHITECTURE.md: {what}", why
+    for what, why in claims_of_times((TOP / "docs/use/USAGE.md").read_text(encoding="utf-8")):
+        yield f"USAGE.md: {what}", why
     for file in PAGES:
         yield from claims_of_all(file)
 
