@@ -155,6 +155,7 @@ task 2: WorkflowTaskCompleted (event 14) 2024-05-01T10:19:33.000Z
   gives WorkflowExecutionFailed (event 15) 2024-05-01T10:19:33.000Z, because Activity task failed <- ServiceUnavailable: HTTP 503, retry state RETRY_STATE_RETRY_POLICY_NOT_SET
 can't be replayed here: MarkerRecorded SideEffect, 1 events, first (event 7)
 can't be replayed here: MarkerRecorded LocalActivity, 1 events, first (event 8)
+activity ChargeCard: 1 times, 1 failed, median 19 min 33 s, longest 19 min 33 s (event 9)
 """
 GO_RUN = """{"events":15,"tasks":2,"things":4,"run":{"status":"Failed","workflowId":"order-17","runId":"5e0c7a1e-0000-4000-8000-000000000001","taskQueue":"orders","parentWorkflowId":"shop-1","parentRunId":"77f0","closed":15,"seconds":1173.000}}
 """
@@ -243,12 +244,18 @@ can't be replayed here: MarkerRecorded core_local_activity, 1 events, first (eve
 can't be replayed here: WorkflowExecutionUpdateAccepted, 1 events, first (event 14)
 can't be replayed here: WorkflowExecutionUpdateCompleted, 1 events, first (event 15)
 running; waits for timer 1 (event 8) since 2024-05-01T10:00:00.000Z until 2024-05-15 10:00:00 UTC; waits for child receipt-3 receipt (event 9) since 2024-05-01T10:00:00.000Z, started (event 10) 2024-05-01T10:00:00.250Z; waits for activity 2 sendReceipt (event 16) since 2024-05-01T10:00:01.000Z; waits for a workflow task (event 18) since 2024-05-01T10:00:02.000Z, not started
+timer: 1 times, 1 open
+child receipt: 1 times, 1 open
+activity sendReceipt: 1 times, 1 open
 """
-# What its last objects say, and its first one of the run.
+# Its last objects: what the run waits for, and what its things come to.
 TYPESCRIPT_WAITS = """{"waits":"timer","id":"1","opened":8,"since":"2024-05-01T10:00:00.000Z","until":"2024-05-15 10:00:00Z"}
 {"waits":"childWorkflow","id":"receipt-3","type":"receipt","opened":9,"started":10,"since":"2024-05-01T10:00:00.000Z"}
 {"waits":"activity","id":"2","type":"sendReceipt","opened":16,"since":"2024-05-01T10:00:01.000Z"}
 {"waits":"workflowTask","opened":18,"since":"2024-05-01T10:00:02.000Z"}
+{"sum":"timer","times":1,"failed":0,"open":1}
+{"sum":"childWorkflow","type":"receipt","times":1,"failed":0,"open":1}
+{"sum":"activity","type":"sendReceipt","times":1,"failed":0,"open":1}
 """
 
 # A run in Java that goes on in another one, and one in Python whose workflow task was failed.
@@ -325,6 +332,7 @@ task 2: WorkflowTaskCompleted (event 14) 2024-05-01T10:00:11.000Z
 can't be replayed here: MarkerRecorded Version, 1 events, first (event 5)
 can't be replayed here: MarkerRecorded SideEffect, 1 events, first (event 6)
 can't be replayed here: MarkerRecorded LocalActivity, 1 events, first (event 7)
+activity Charge: 1 times, 1 failed, median 11 s, longest 11 s (event 9)
 """
 
 PYTHON = history(
@@ -365,9 +373,37 @@ PYTHON_WAITS = """{"waits":"workflowTask","opened":6,"failed":8,"since":"2024-05
 """
 
 
+def activity(opened, kind, scheduled, closed=None, end="Completed"):
+    """An activity, whose events are numbered from the one that schedules it."""
+    events = [("ActivityTaskScheduled", scheduled, {"activityId": str(opened), "activityType": {"name": kind}, "workflowTaskCompletedEventId": "4"})]
+    if closed is None:
+        return events
+    return [*events, (f"ActivityTask{end}", closed, {"scheduledEventId": str(opened)})]
+
+
+# Four cards of which the third took an hour and failed, one that is not charged yet, and two letters of 80 and 300 ms.
+CARDS = history(
+    ("WorkflowExecutionStarted", 0, {"workflowType": {"name": "Batch"}}),
+    *task(0),
+    *activity(5, "ChargeCard", 0, 1),
+    *activity(7, "SendLetter", 1, 1.08),
+    *activity(9, "ChargeCard", 2, 4),
+    *activity(11, "ChargeCard", 5, 3605, "Failed"),
+    *activity(13, "SendLetter", 3605, 3605.3),
+    *activity(15, "ChargeCard", 3605, 3609.5),
+    *activity(17, "ChargeCard", 3610),
+)
+CARDS_SUMS = """activity ChargeCard: 5 times, 1 failed, 1 open, median 2.0 s, longest 1 h (event 11)
+activity SendLetter: 2 times, median 80 ms, longest 0.3 s (event 13)
+"""
+CARDS_OBJECTS = """{"sum":"activity","type":"ChargeCard","times":5,"failed":1,"open":1,"median":2.000,"longest":3600.000,"longestOpened":11}
+{"sum":"activity","type":"SendLetter","times":2,"failed":0,"open":0,"median":0.080,"longest":0.300,"longestOpened":13}
+"""
+
+
 def sdk_runs(room):
-    """Each run, as text; what an open one waits for, and the tasks around an event that is not there."""
-    files = {"go.json": GO, "typescript.json": TYPESCRIPT, "java.json": JAVA, "python.json": PYTHON}
+    """Each run, as text; what an open one waits for, the tasks around an event that is not there, and what things come to."""
+    files = {"go.json": GO, "typescript.json": TYPESCRIPT, "java.json": JAVA, "python.json": PYTHON, "cards.json": CARDS}
     folder = room.folder(files)
     show = ["explain", "--recorded"]
     return [
@@ -379,4 +415,7 @@ def sdk_runs(room):
         ([*show, "--json", "--last", "1", f"{folder}/go.json"], 0, Like(f"{GO_RUN}*"), ""),
         ([*show, "--around", "999", f"{folder}/python.json"], 0, PYTHON_AROUND, ""),
         ([*show, "--json", f"{folder}/python.json"], 0, Like(f"*{PYTHON_WAITS}"), ""),
+        ([*show, f"{folder}/cards.json"], 0, Like(f"*{CARDS_SUMS}"), ""),
+        ([*show, "--last", "1", f"{folder}/cards.json"], 0, Like(f"*{CARDS_SUMS}"), ""),
+        ([*show, "--json", f"{folder}/cards.json"], 0, Like(f"*{CARDS_OBJECTS}"), ""),
     ]

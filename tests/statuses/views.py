@@ -18,8 +18,10 @@ SECOND_TASK = """  told TimerFired nap (event 6) 2024-05-01T10:01:05Z, opened (e
 task 2: WorkflowTaskCompleted (event 9) 2024-05-01T10:01:08Z
   gives WorkflowExecutionCompleted (event 10) 2024-05-01T10:01:09Z
 """
-VIEWED = f"{HEAD}{FIRST_TASK}{SECOND_TASK}"
-VIEWED_LAST = f"{HEAD}{SECOND_TASK}5 events of other tasks are left out\n"
+# What its timer comes to.
+SUMS = "timer: 1 times, median 1 min, longest 1 min (event 5)\n"
+VIEWED = f"{HEAD}{FIRST_TASK}{SECOND_TASK}{SUMS}"
+VIEWED_LAST = f"{HEAD}{SECOND_TASK}5 events of other tasks are left out\n{SUMS}"
 # Seven tasks, each of one event.
 TASKS = [
     {"eventId": str(number), "eventTime": f"2024-05-01T10:00:0{number}Z", "eventType": "WorkflowTaskCompleted"}
@@ -106,7 +108,7 @@ def views(room):
         ([*show, nap, "--last", "67108864"], 0, VIEWED, ""),
         ([*show, "--around", "4", tasks], 0, VIEWED_AROUND, ""),
         ([*show, "--around", "9", nap], 0, VIEWED, ""),
-        ([*show, "--around", "11", nap], 0, f"{HEAD}no event 11, the last is (event 10)\n10 events of other tasks are left out\n", ""),
+        ([*show, "--around", "11", nap], 0, f"{HEAD}no event 11, the last is (event 10)\n10 events of other tasks are left out\n{SUMS}", ""),
         ([*show, "--json", "--last", "1", tasks], 0, VIEWED_AS_JSON, ""),
         ([*show, f"{folder}/cut.json"], 2, "", "wfhost: cut.json: not JSON at line 2 column 3\n"),
         ([*show, f"{folder}/empty.json"], 2, "", "wfhost: empty.json: unreadable, no events\n"),

@@ -8,3 +8,4 @@ mod Causes
 mod Closing
 mod Opened
 mod Membered
+mod Summed

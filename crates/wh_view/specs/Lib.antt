@@ -7,12 +7,12 @@ pub mod Values
 pub mod EventDetails
 pub mod Runs
 pub mod Waiting
-pub mod Durations
 pub mod Times
 pub mod Parts
 pub mod Things
 pub mod Unsupported
 pub mod Views
 pub mod Lookups
+pub mod Sums
 pub mod Laws
 pub mod Private

@@ -1,6 +1,6 @@
 -- The times of events and things, in milliseconds.
 use Rattle.std.specs.Prelude.{ℕ, ◌+◌, ◌-◌, ◌/◌, min, pos, ℤ, int_lt, unsigned_abs, if◌then◌else◌, Option, Some, None, option_map, option_and_then, slice_get}
-use Rattle.wh_view.specs.Durations.{duration_in}
+use Rattle.wh_times.specs.Durations.{duration_in}
 use Rattle.wh_view.specs.declared.view.View.{View}
 use Rattle.wh_view.specs.declared.view.ViewedEvent.{ViewedEvent}
 use Rattle.wh_view.specs.declared.view.ViewedThing.{ViewedThing}

@@ -17,6 +17,8 @@ use Rattle.wh_view.specs.Details.{attempt_of, failure_of, duration_of, AreValues
 use Rattle.wh_view.specs.Values.{values_of}
 use Rattle.wh_view.specs.Each.{Each}
 use Rattle.wh_view.specs.Parts.{completes_task, is_commanded}
+use Rattle.wh_times.specs.Sums.{AreSums}
+use Rattle.wh_view.specs.Sums.{typed_things}
 use Rattle.wh_view.specs.Things.{gathered}
 use Rattle.wh_view.specs.Unsupported.{unsupported_kinds}
 
@@ -67,6 +69,12 @@ pub record IsViewOf (members : List Data) (view : View) : Type 0 where
   pub links : view.links ≡ (gathered view.events).links
   pub tasks : view.tasks ≡ tasks_from 0 view.events
   pub unsupported : view.unsupported ≡ unsupported_kinds view.events
+  pub sums : AreSums (typed_things view) view.sums
+
+-- the view is the other one with what its activities, timers and child workflows of each type come to
+pub record IsSummed (view new : View) : Type 0 where
+  pub others : new ≡ record view { sums = new.sums }
+  pub sums : AreSums (typed_things new) new.sums
 
 -- the members of the list of the history that the bytes encode, or why there are none
 abbrev pub members_of : List ℕ → Result (List Data) ReadFault

@@ -4,7 +4,6 @@
 
 mod attributes;
 mod details;
-mod durations;
 mod failures;
 mod gathering;
 pub mod laws;
@@ -14,13 +13,13 @@ mod parts;
 mod payloads;
 mod reading;
 mod runs;
+mod sums;
 mod times;
 mod unsupported;
 mod updates;
 mod view;
 mod waiting;
 
-pub use durations::duration_in;
 pub use failures::MOST_FAILURES;
 pub use parts::{EventUse, Part};
 pub use reading::{view_members, view_of};
@@ -29,3 +28,4 @@ pub use view::{
     Ending, EventDetails, OpenTask, RunNames, RunStatus, ThingKind, UnsupportedKind, UpdateName,
     UpdateStep, View, ViewedEvent, ViewedFailure, ViewedThing,
 };
+pub use wh_times::{Lengths, TypeSum, duration_in};

@@ -9,6 +9,7 @@ use crate::attributes::{attributes_of, copy_text};
 use crate::details::{attempt_of, details_of, duration_of, failure_of, json_of, payload_texts};
 use crate::gathering::gather_all;
 use crate::runs::run_of;
+use crate::sums::type_sums;
 use crate::unsupported::unsupported_kinds;
 use crate::view::{View, ViewedEvent};
 use serde_json::Value;
@@ -98,6 +99,14 @@ fn tasks(alloc: Global, events: &[ViewedEvent]) -> Result<Vec<usize>, OutOfMemor
     Ok(tasks)
 }
 
+/// Sets what the activities, timers and child workflows of each type come to.
+fn with_sums(alloc: Global, view: View) -> Result<View, OutOfMemory>
+    ensures { IfOk result (views.IsSummed view) }
+{
+    let sums = Items::new(type_sums(alloc, &view)?);
+    Ok(View { sums, ..view })
+}
+
 /// Views the members of a history's list that are parsed already, as `view_of` views them. The list
 /// may be empty.
 pub fn view_members(alloc: Global, members: &[Value]) -> Result<View, OutOfMemory>
@@ -108,14 +117,18 @@ pub fn view_members(alloc: Global, members: &[Value]) -> Result<View, OutOfMemor
     let tasks = tasks(alloc, events.as_slice())?;
     let unsupported = unsupported_kinds(alloc, events.as_slice())?;
     let (things, links) = gather_all(alloc, events.as_slice())?.into_parts();
-    Ok(View {
-        run,
-        events: Items::new(events),
-        things,
-        links,
-        tasks: Items::new(tasks),
-        unsupported: Items::new(unsupported),
-    })
+    with_sums(
+        alloc,
+        View {
+            run,
+            events: Items::new(events),
+            things,
+            links,
+            tasks: Items::new(tasks),
+            unsupported: Items::new(unsupported),
+            sums: Items::new(Vec::new(alloc)),
+        },
+    )
 }
 
 /// Views a workflow history in the JSON form of the Temporal CLI's export: an object with a list

@@ -3,8 +3,8 @@
 ghost use Rattle.std.specs.Prelude.{◌≡◌};
 ghost use Rattle.wh_view.specs.Times as times;
 
-use crate::durations::duration_in;
 use crate::view::{View, ViewedEvent, ViewedThing};
+use wh_times::duration_in;
 
 /// The latest moment that is told: the end of the year 9999, in milliseconds from
 /// 1970-01-01T00:00:00Z.

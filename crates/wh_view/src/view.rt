@@ -2,6 +2,7 @@
 
 use wh_events::{EventNo, Items, Text};
 use wh_json::PartialEvent;
+use wh_times::TypeSum;
 
 /// An event of a history, which may hold anything.
 #[derive(Drop)]
@@ -211,4 +212,7 @@ pub struct View {
     /// What the reader of histories does not support of it: each type and each name of markers
     /// once, in the order of their first events.
     pub unsupported: Items<UnsupportedKind>,
+    /// What the activities, the timers and the child workflows of each type come to, in the order of
+    /// the first of each. All timers are of one type.
+    pub sums: Items<TypeSum>,
 }

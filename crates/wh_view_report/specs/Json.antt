@@ -17,6 +17,7 @@ use Rattle.wh_tester.specs.Report.{shown}
 use Rattle.wh_view.specs.Times.{queue_time}
 use Rattle.wh_view_report.specs.JsonParts.{kind_word, place_at, place_member}
 use Rattle.wh_view_report.specs.JsonRun.{run_member, wait_objects}
+use Rattle.wh_view_report.specs.JsonSums.{type_object}
 use Rattle.wh_view_report.specs.JsonText.{seconds_member}
 use Rattle.wh_view_report.specs.Spans.{time_taken}
 use Rattle.wh_view_report.specs.Words.{mark_words, marker_name}
@@ -111,9 +112,13 @@ unsupported_object view kind = kind_object_at view kind.count (slice_get view.ev
 abbrev pub top_objects : View → List ℕ
 top_objects view = head_object view ++ flat_map (unsupported_object view) view.unsupported
 
--- the objects of the events of some tasks, and of what an open run waits for
+-- the objects of what an open run waits for, and of the types of its things
+abbrev pub state_objects : View → List ℕ
+state_objects view = wait_objects view ++ flat_map (type_object view) view.sums
+
+-- the objects of the events of some tasks, and those of the whole run
 abbrev pub rest_objects : View → TaskRange → List ℕ
-rest_objects view span = flat_map (within_object view span) view.events ++ wait_objects view
+rest_objects view span = flat_map (within_object view span) view.events ++ state_objects view
 
 -- the objects of some tasks
 unfoldable pub span_objects : View → TaskRange → List ℕ

@@ -4,8 +4,10 @@ pub mod Spans
 pub mod Causes
 pub mod Run
 pub mod Waits
+pub mod Sums
 pub mod JsonText
 pub mod JsonParts
 pub mod JsonRun
+pub mod JsonSums
 pub mod Texts
 pub mod Json

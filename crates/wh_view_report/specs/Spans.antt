@@ -1,6 +1,6 @@
 -- Lengths of time, as people write them, and as seconds in JSON.
 use Rattle.std.specs.Prelude.{ℕ, ◌/◌, ◌%◌, ◌==◌, ◌&&◌, nat_lt, not, Bool, false, is_some, List, [], ◌++◌, codes, decimal, Option, Some, None, if◌then◌else◌}
-use Rattle.wh_view.specs.Durations.{duration_in}
+use Rattle.wh_times.specs.Durations.{duration_in}
 use Rattle.wh_view.specs.Lookups.{index_of, thing_of}
 use Rattle.wh_view.specs.Times.{queue_time, work_time, whole_time}
 use Rattle.wh_view.specs.declared.view.View.{View}

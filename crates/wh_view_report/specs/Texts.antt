@@ -16,6 +16,7 @@ use Rattle.wh_view.specs.Lookups.{opening_of, event_id, event_name, event_type, 
 use Rattle.wh_view_report.specs.Causes.{because_text, ending_text}
 use Rattle.wh_view_report.specs.Run.{run_lines}
 use Rattle.wh_view_report.specs.Spans.{duration_text, step_span}
+use Rattle.wh_view_report.specs.Sums.{sum_text}
 use Rattle.wh_view_report.specs.Waits.{waits_line}
 use Rattle.wh_view_report.specs.Words.{start_text, number_text, link_text, marker_name, told_mark, attempt_text}
 
@@ -172,9 +173,13 @@ left_line left = if left == 0 then [] else decimal left ++ codes " events of oth
 abbrev pub tasks_text : View → TaskRange → List ℕ
 tasks_text view span = flat_map (shown_text view span) view.events ++ left_line (left_out view span)
 
--- the last lines: a line for each kind that is not supported, and what an open run waits for
+-- what an open run waits for, and a line for each type of its things
+abbrev pub state_text : View → List ℕ
+state_text view = waits_line view ++ flat_map (sum_text view) view.sums
+
+-- the last lines: a line for each kind that is not supported, and how the run and its things stand
 abbrev pub bottom_text : View → List ℕ
-bottom_text view = flat_map (unsupported_line view) view.unsupported ++ waits_line view
+bottom_text view = flat_map (unsupported_line view) view.unsupported ++ state_text view
 
 -- the text above and below the tasks, and that of some tasks
 abbrev pub front_text : View → Selection → List ℕ

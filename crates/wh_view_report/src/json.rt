@@ -7,6 +7,7 @@ ghost use Rattle.wh_view_report.specs.Json as json;
 
 use crate::json_parts::{PlaceMember, kind_word, place_at};
 use crate::json_run::{RunMember, write_waits};
+use crate::json_sums::write_sums;
 use crate::json_text::SecondsMember;
 use crate::spans::time_taken;
 use crate::text::{TaskRange, completed_count, is_within, span_of};
@@ -245,13 +246,21 @@ fn write_top<O: Write>(view: &View, writer: &mut O) -> io::Result<()>
     write_kinds(view, writer)
 }
 
-/// Writes the objects of the events of some tasks, and of what an open run waits for.
+/// Writes the objects of what an open run waits for, and of the types of its things.
+fn write_state<O: Write>(view: &View, writer: &mut O) -> io::Result<()>
+    ensures { OnOk result (Appends (O.contents writer.old) (O.contents writer.new) (json.state_objects view.now)) }
+{
+    write_waits(view, writer)?;
+    write_sums(view, writer)
+}
+
+/// Writes the objects of the events of some tasks, and those of the whole run at the end.
 fn write_rest<O: Write>(view: &View, span: TaskRange, writer: &mut O) -> io::Result<()>
     ensures { OnOk result
         (Appends (O.contents writer.old) (O.contents writer.new) (json.rest_objects view.now span)) }
 {
     write_events(view, span, writer)?;
-    write_waits(view, writer)
+    write_state(view, writer)
 }
 
 /// Writes the objects of some tasks.
@@ -288,7 +297,13 @@ fn write_span<O: Write>(view: &View, span: TaskRange, writer: &mut O) -> io::Res
 /// If the run is open, each thing for which it waits has an object at the end, with its kind as
 /// `waits`, its `id` and `type`, the places of the events that `opened` and `started` it, `since`
 /// when it is open, and `until` when a timer is due. A workflow task that is not completed has the
-/// last one, with the kind `workflowTask`.
+/// last one of these, with the kind `workflowTask`.
+///
+/// Then each type of its activities and child workflows has an object, and its timers have one, in
+/// the order of the first of each, with the kind as `sum`, the `type`, how many `times` there was
+/// such a thing, how many `failed` and are `open`, and in seconds the `median` and the `longest` of
+/// their times from opening to end, with the place of the event that opened that one
+/// (`longestOpened`). These too are of the whole run, whichever tasks are selected.
 ///
 /// After an error some of the lines may have been written.
 pub fn write_json_view<O: Write>(

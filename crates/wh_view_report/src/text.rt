@@ -9,6 +9,7 @@ use crate::causes::{Because, EndingText};
 use crate::cut::{Excerpt, LabelText};
 use crate::run::write_run;
 use crate::spans::{DurationText, StepSpan};
+use crate::sums::write_sums;
 use crate::waits::write_waits;
 use crate::words::{Attempt, Link, Number, Start, marker_name, told_mark};
 use std::io::Write;
@@ -374,12 +375,21 @@ fn write_tasks<O: Write>(view: &View, span: TaskRange, writer: &mut O) -> io::Re
     write_left(left, writer)
 }
 
-/// Writes the last lines: what can't be replayed, and what an open run waits for.
+/// Writes what an open run waits for, and what the things of each type come to.
+fn write_state<O: Write>(view: &View, writer: &mut O) -> io::Result<()>
+    ensures { OnOk result (Appends (O.contents writer.old) (O.contents writer.new) (texts.state_text view.now)) }
+{
+    write_waits(view, writer)?;
+    write_sums(view, writer)
+}
+
+/// Writes the last lines: what can't be replayed, what an open run waits for, and what the things of
+/// each type come to.
 fn write_bottom<O: Write>(view: &View, writer: &mut O) -> io::Result<()>
     ensures { OnOk result (Appends (O.contents writer.old) (O.contents writer.new) (texts.bottom_text view.now)) }
 {
     write_kinds(view, writer)?;
-    write_waits(view, writer)
+    write_state(view, writer)
 }
 
 /// Writes the first lines, and that there is no event of the number that is selected.
@@ -438,8 +448,12 @@ fn write_span<O: Write>(
 /// number, these are all events but those of tasks that were completed before the first one.
 ///
 /// Then each type, or name of markers, that the reader of histories does not support has a line,
-/// with the number of its events and the number of the first one, whichever tasks are selected. The
-/// last line says what the run waits for, if it is open.
+/// with the number of its events and the number of the first one. If the run is open, the next line
+/// says what it waits for. The last lines are of the types of its activities and child workflows,
+/// and one of its timers, in the order of the first of each: how many there are, how many of them
+/// failed and how many are open, the median of their times from opening to end, the longest of
+/// these, and by what event that one was opened. All these are of the whole run, whichever tasks are
+/// selected.
 ///
 /// After an error some of the text may have been written.
 pub fn write_view<O: Write>(view: &View, selection: Selection, writer: &mut O) -> io::Result<()>

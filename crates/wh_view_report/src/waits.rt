@@ -14,7 +14,7 @@ use wh_html::Stamp;
 use wh_view::{OpenTask, RunStatus, ThingKind, View, ViewedEvent, ViewedThing};
 
 /// Returns the kind of a thing, in a word or two.
-fn kind_text(kind: ThingKind) -> &'static str
+pub(crate) fn kind_text(kind: ThingKind) -> &'static str
     ensures { result.now ≡ waits.kind_text kind }
 {
     match kind {

@@ -32,7 +32,11 @@ impl fmt::Display for Number<'_> {
 
 /// A label and a reference to the event at an index; nothing if there is none.
 #[derive(Drop)]
-struct Reference<'a>(&'static str, &'a View, Option<usize>);
+pub(crate) struct Reference<'a>(
+    pub(crate) &'static str,
+    pub(crate) &'a View,
+    pub(crate) Option<usize>,
+);
 
 impl fmt::Display for Reference<'_> {
     ghost output = { λ r. Some (reference_text r.0.now r.1.now r.2) };

@@ -27,6 +27,8 @@ task 3: WorkflowTaskCompleted (event 16) 2024-05-01T10:00:16Z
   told TimerFired u (event 17) 2024-05-01T10:00:17Z, opened (event 13), took 4.0 s
 task 4: WorkflowTaskCompleted (event 20) 2024-05-01T10:00:20Z
   gives WorkflowExecutionCompleted (event 21) 2024-05-01T10:00:21Z
+activity race: 1 times, median 7.0 s, longest 7.0 s (event 5)
+timer: 2 times, median 1.0 s, longest 4.0 s (event 13)
 
 late
 Racer: 11 events, 1 tasks completed, 2 things
@@ -40,6 +42,8 @@ task 1: WorkflowTaskCompleted (event 4) 2024-05-01T10:00:04Z
   told TimerFired t (event 8) 2024-05-01T10:00:08Z, opened (event 6), took 2.0 s
   told ActivityTaskCompleted 1 race (event 9) 2024-05-01T10:00:09Z, opened (event 5), took 2.0 s
 running; waits for a workflow task (event 10) since 2024-05-01T10:00:10Z, started (event 11) 2024-05-01T10:00:11Z
+activity race: 1 times, median 4.0 s, longest 4.0 s (event 5)
+timer: 1 times, median 2.0 s, longest 2.0 s (event 6)
 
 start:X S T C unknown timer_fired:9 marker:LocalActivity child:kid:Nap cancel_child:kid external:other:go
 X: 10 events, 1 tasks completed, 4 things
@@ -56,6 +60,7 @@ task 1: WorkflowTaskCompleted (event 4) 2024-05-01T10:00:04Z
 can't be replayed here: EVENT_TYPE_SOMETHING_NEW, 1 events, first (event 5)
 can't be replayed here: MarkerRecorded LocalActivity, 1 events, first (event 7)
 running; waits for child kid Nap (event 8) since 2024-05-01T10:00:08Z, not started; waits for cancel request to kid (event 9) since 2024-05-01T10:00:09Z; waits for signal request to other go (event 10) since 2024-05-01T10:00:10Z
+child Nap: 1 times, 1 open
 
 start:X S T C unknown marker:LocalActivity unknown marker:SideEffect marker:LocalActivity ignored unknown
 X: 11 events, 1 tasks completed, 3 things
@@ -94,6 +99,8 @@ Completed (event 21) 2024-05-01T10:00:21Z, after 20 s
 task 4: WorkflowTaskCompleted (event 20) 2024-05-01T10:00:20Z
   gives WorkflowExecutionCompleted (event 21) 2024-05-01T10:00:21Z
 16 events of other tasks are left out
+activity race: 1 times, median 7.0 s, longest 7.0 s (event 5)
+timer: 2 times, median 1.0 s, longest 4.0 s (event 13)
 ";
 
 /// The tasks of `racer` around that of its last event.
@@ -111,6 +118,8 @@ task 3: WorkflowTaskCompleted (event 16) 2024-05-01T10:00:16Z
 task 4: WorkflowTaskCompleted (event 20) 2024-05-01T10:00:20Z
   gives WorkflowExecutionCompleted (event 21) 2024-05-01T10:00:21Z
 6 events of other tasks are left out
+activity race: 1 times, median 7.0 s, longest 7.0 s (event 5)
+timer: 2 times, median 1.0 s, longest 4.0 s (event 13)
 ";
 
 /// A history with values, attempts and failures, and with several faults.
@@ -138,6 +147,7 @@ task 1: WorkflowTaskCompleted (event 4), out of order
       "x"
   has  (place 6), bad number
 running; waits for timer nap (event 5) since t
+timer: 1 times, 1 open
 "#;
 
 /// The last task of `late` as JSON.
@@ -148,6 +158,8 @@ const LATE_JSON: &str = r#"{"events":11,"tasks":1,"things":2,"run":{"status":"Ru
 {"place":10,"event":10,"task":2,"is":"other","recorded":{"eventId":"10","eventTime":"2024-05-01T10:00:10Z","eventType":"WorkflowTaskScheduled"}}
 {"place":11,"event":11,"task":2,"is":"other","recorded":{"eventId":"11","eventTime":"2024-05-01T10:00:11Z","eventType":"WorkflowTaskStarted"}}
 {"waits":"workflowTask","opened":10,"started":11,"since":"2024-05-01T10:00:10Z"}
+{"sum":"activity","type":"race","times":1,"failed":0,"open":0,"median":4.000,"longest":4.000,"longestOpened":5}
+{"sum":"timer","times":1,"failed":0,"open":0,"median":2.000,"longest":2.000,"longestOpened":6}
 "#;
 
 /// An event up to the name of its signal.

@@ -2,7 +2,7 @@ use Rattle.std.proofs.Common.{rules, ◌≡◌, true, ◌∙◌, ◌<◌, ◌≤
 use Rattle.std.specs.List.{list_all}
 use Rattle.std.specs.Char.{is_ascii_digit}
 use Rattle.wh_json.proofs.Numbers.{parsed_number}
-use Rattle.wh_view.proofs.durations.digits_in.Goals as goal
+use Rattle.wh_times.proofs.durations.digits_in.Goals as goal
 
 pub returns : goal.returns
 returns c =

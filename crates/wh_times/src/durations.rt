@@ -4,7 +4,7 @@ ghost use Rattle.std.specs.Prelude.{◌≡◌};
 ghost use Rattle.std.specs.Char.{is_ascii_digit};
 ghost use Rattle.std.specs.List.{list_all};
 ghost use Rattle.wh_json.specs.Fields.{number_in};
-ghost use Rattle.wh_view.specs.Durations as durations;
+ghost use Rattle.wh_times.specs.Durations as durations;
 
 /// The most seconds of a duration (<https://protobuf.dev/reference/protobuf/google.protobuf/#duration>).
 const MOST_SECONDS: u64 = 315_576_000_000;
