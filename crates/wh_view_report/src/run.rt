@@ -11,7 +11,7 @@ use crate::words::Number;
 use std::io::Write;
 use std::{fmt, io};
 use wh_events::EventKind;
-use wh_view::{RunNames, RunStatus, View};
+use wh_view::{RunNames, RunStatus, View, ViewedEvent};
 
 /// A name, or that it is not recorded.
 #[derive(Drop)]
