@@ -80,9 +80,10 @@ tasks_text labels metrics =
     ++ (outcome_sample labels (codes ",outcome=\"not_found\"") metrics.not_found
     ++ outcome_sample labels (codes ",outcome=\"refused\"") metrics.refused)))
 
--- workflow tasks with a cached run and without one, polls, and those of them that got an empty response
-abbrev pub totals_text : (labels : List ℕ) → Metrics → List ℕ
-totals_text labels metrics =
+-- the counters of one sample: workflow tasks with a cached run and without one, polls, and those of them that got an
+-- empty response
+abbrev pub counters_text : (labels : List ℕ) → Metrics → List ℕ
+counters_text labels metrics =
     single_text Hits labels metrics.hits ++ (single_text Misses labels metrics.misses
     ++ (single_text Polls labels metrics.polls ++ single_text EmptyPolls labels metrics.empty_polls))
 
@@ -122,5 +123,5 @@ holdings_text labels (Some held) =
 -- all counts of a process with these labels
 abbrev pub metrics_text : (labels : List ℕ) → Metrics → List ℕ
 metrics_text labels metrics =
-    tasks_text labels metrics ++ (totals_text labels metrics
+    tasks_text labels metrics ++ (counters_text labels metrics
     ++ (times_text labels metrics ++ holdings_text labels metrics.held))

@@ -2,9 +2,9 @@
 
 ghost use Rattle.std.specs.Prelude.{◌≡◌, Some};
 ghost use Rattle.wh_metrics.specs.Labels.{labels_text};
-ghost use Rattle.wh_metrics.specs.Exposition.{amount_text, head_text, help_of, holdings_text, kind_of, kinds_text};
-ghost use Rattle.wh_metrics.specs.Exposition.{metrics_text, name_of, sample_text, single_text, slots_text};
-ghost use Rattle.wh_metrics.specs.Exposition.{summary_text, tasks_text, times_text, totals_text};
+ghost use Rattle.wh_metrics.specs.Exposition.{amount_text, counters_text, head_text, help_of, holdings_text, kind_of};
+ghost use Rattle.wh_metrics.specs.Exposition.{kinds_text, metrics_text, name_of, sample_text, single_text, slots_text};
+ghost use Rattle.wh_metrics.specs.Exposition.{summary_text, tasks_text, times_text};
 
 use crate::labels::WorkerLabels;
 use crate::metrics::{Gauges, Metrics, TaskTimes};
@@ -380,19 +380,19 @@ impl fmt::Display for Holdings<'_> {
     }
 }
 
-/// Workflow tasks with a cached run and without one, and polls.
+/// The counters of one sample: workflow tasks with a cached run and without one, and polls.
 #[derive(Clone, Copy)]
-struct Totals<'a> {
+struct SingleCounters<'a> {
     labels: WorkerLabels<'a>,
     metrics: Metrics,
 }
 
-impl fmt::Display for Totals<'_> {
-    ghost output = { λ t. Some (totals_text
+impl fmt::Display for SingleCounters<'_> {
+    ghost output = { λ t. Some (counters_text
         (labels_text t.labels.namespace.now t.labels.task_queue.now t.labels.identity.now) t.metrics) };
 
     fn fmt<W: fmt::Write>(&self, f: &mut fmt::Formatter<W>) -> fmt::Result {
-        let Totals { labels, metrics } = *self;
+        let SingleCounters { labels, metrics } = *self;
         let hits = Single(labels, SingleMetric::Hits, metrics.hits);
         let misses = Single(labels, SingleMetric::Misses, metrics.misses);
         let polls = Single(labels, SingleMetric::Polls, metrics.polls);
@@ -420,12 +420,12 @@ impl fmt::Display for Exposition<'_> {
     fn fmt<W: fmt::Write>(&self, f: &mut fmt::Formatter<W>) -> fmt::Result {
         let Exposition { labels, metrics } = *self;
         let tasks = TaskOutcomes { labels, metrics };
-        let totals = Totals { labels, metrics };
+        let counters = SingleCounters { labels, metrics };
         let times = Times { labels, metrics };
         let holdings = Holdings {
             labels,
             held: metrics.held,
         };
-        write!(f, "{tasks}{totals}{times}{holdings}")
+        write!(f, "{tasks}{counters}{times}{holdings}")
     }
 }

@@ -44,7 +44,7 @@ impl Excess {
 }
 
 /// A policy, whose times may contradict each other.
-pub(crate) trait Judged: Drop {
+pub(crate) trait Policy: Drop {
     ghost use Rattle.std.specs.Prelude.{◌≡◌, Option};
     ghost use Rattle.wh_policies.specs.declared.excess.Excess.{Excess};
 
@@ -100,7 +100,7 @@ fn excess_of_heartbeat(policy: &ActivityPolicy) -> Option<Excess>
     }
 }
 
-impl Judged for ActivityPolicy {
+impl Policy for ActivityPolicy {
     ghost use Rattle.wh_policies.specs.Excesses.{excess_of_activity};
 
     ghost excess = { excess_of_activity };
@@ -113,7 +113,7 @@ impl Judged for ActivityPolicy {
     }
 }
 
-impl Judged for ChildPolicy {
+impl Policy for ChildPolicy {
     ghost use Rattle.wh_policies.specs.Excesses.{excess_of_child};
 
     ghost excess = { excess_of_child };
@@ -123,7 +123,7 @@ impl Judged for ChildPolicy {
     }
 }
 
-impl Judged for ContinuePolicy {
+impl Policy for ContinuePolicy {
     ghost use Rattle.wh_policies.specs.Excesses.{excess_of_continuation};
 
     ghost excess = { excess_of_continuation };

@@ -6,7 +6,7 @@ ghost use Rattle.wh_policies.specs.Excesses.{AreFree, IsFree};
 ghost use Rattle.wh_policies.specs.Policies.{GivesPolicies, knows_table};
 ghost use Rattle.wh_policies.specs.TomlTables.{AllKnown};
 
-use crate::excess::Judged;
+use crate::excess::Policy;
 use crate::fault::{KeyFault, above, within};
 use crate::policies::Policies;
 use crate::reading::read_known;
@@ -15,7 +15,7 @@ use std::alloc::Global;
 use toml::Table;
 
 /// Checks that no row's policy has a time above another one.
-fn judge_rows<P: Judged>(alloc: Global, each: &str, rows: &[PolicyRow<P>]) -> Result<(), KeyFault>
+fn judge_rows<P: Policy>(alloc: Global, each: &str, rows: &[PolicyRow<P>]) -> Result<(), KeyFault>
     ensures { OnOk result (All (λ row. P.excess row.policy ≡ None) rows.now) }
 {
     for row in rows {
@@ -28,7 +28,7 @@ fn judge_rows<P: Judged>(alloc: Global, each: &str, rows: &[PolicyRow<P>]) -> Re
 }
 
 /// Checks that no policy of a kind has a time above another one.
-fn judge_table<P: Judged>(
+fn judge_table<P: Policy>(
     alloc: Global,
     all: &str,
     each: &str,
