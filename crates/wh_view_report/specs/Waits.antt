@@ -51,28 +51,32 @@ start_by _ view started = []
 abbrev pub thing_start : View → ViewedThing → List ℕ
 thing_start view thing = start_by thing.kind view thing.started
 
--- that a run waits for a thing, which the event opened
-unfoldable pub open_thing : View → ViewedThing → ViewedEvent → List ℕ
-open_thing view thing event =
-    codes "; waits for " ++ (kind_text thing.kind ++ (label_text (codes " ") (event_id event)
+-- a thing for which a run waits, which the event opened
+unfoldable pub awaited_thing : View → ViewedThing → ViewedEvent → List ℕ
+awaited_thing view thing event =
+    kind_text thing.kind ++ (label_text (codes " ") (event_id event)
     ++ (label_text (codes " ") (event_type event) ++ (codes " " ++ (number_text event
-    ++ (label_text (codes " since ") event.moment ++ (thing_start view thing ++ until_text (due_time view thing))))))))
+    ++ (label_text (codes " since ") event.moment ++ (thing_start view thing ++ until_text (due_time view thing)))))))
 
--- the same, if there is such an event
+-- that a run waits for a thing, if there is such an event
 abbrev pub open_at : View → ViewedThing → Option ViewedEvent → List ℕ
 open_at view thing None = []
-open_at view thing (Some event) = open_thing view thing event
+open_at view thing (Some event) = codes "; waits for " ++ awaited_thing view thing event
 
 -- that a run waits for a thing, if that has not ended
 abbrev pub thing_text : View → ViewedThing → List ℕ
 thing_text view thing = if is_some thing.ended then [] else open_at view thing (slice_get view.events thing.opened)
 
--- that a run waits for a workflow task, which the event scheduled
+-- a workflow task for which a run waits, which the event scheduled
+abbrev pub awaited_task : View → OpenTask → ViewedEvent → List ℕ
+awaited_task view task event =
+    codes "a workflow task " ++ (number_text event ++ (label_text (codes " since ") event.moment
+    ++ started_text view task.started))
+
+-- that a run waits for a workflow task, if there is such an event
 abbrev pub task_at : View → OpenTask → Option ViewedEvent → List ℕ
 task_at view task None = []
-task_at view task (Some event) =
-    codes "; waits for a workflow task " ++ (number_text event ++ (label_text (codes " since ") event.moment
-    ++ started_text view task.started))
+task_at view task (Some event) = codes "; waits for " ++ awaited_task view task event
 
 abbrev pub task_text : View → Option OpenTask → List ℕ
 task_text view None = []

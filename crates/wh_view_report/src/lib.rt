@@ -18,5 +18,6 @@ pub use json::write_json_view;
 pub use run::{run_span, status_word};
 pub use spans::SpanText;
 pub use text::{TaskRange, completed_count, has_selected, is_quiet, workflow_type, write_view};
+pub use waits::{AwaitedTask, AwaitedThing};
 pub use wh_console::Selection;
 pub use words::{Attempt, mark_of};

@@ -86,14 +86,15 @@ impl fmt::Display for ThingStart<'_> {
     }
 }
 
-/// That a run waits for a thing, which an event opened.
+/// A thing for which a run waits, by the event that opened it: its kind, its id and its type, since
+/// when it is open, whether it has started, and when it is due.
 #[derive(Drop)]
-struct OpenThing<'a>(&'a View, &'a ViewedThing, &'a ViewedEvent);
+pub struct AwaitedThing<'a>(pub &'a View, pub &'a ViewedThing, pub &'a ViewedEvent);
 
-impl fmt::Display for OpenThing<'_> {
-    ghost output = { λ o. Some (waits.open_thing o.0.now o.1.now o.2.now) };
+impl fmt::Display for AwaitedThing<'_> {
+    ghost output = { λ o. Some (waits.awaited_thing o.0.now o.1.now o.2.now) };
 
-    #[tactic(auto, unfolding(crate::specs::Waits::open_thing))]
+    #[tactic(auto, unfolding(crate::specs::Waits::awaited_thing))]
     fn fmt<W: fmt::Write>(&self, f: &mut fmt::Formatter<W>) -> fmt::Result {
         let event = self.2;
         let kind = kind_text(self.1.kind);
@@ -103,10 +104,7 @@ impl fmt::Display for OpenThing<'_> {
         let since = LabelText(" since ", event.moment.get());
         let started = ThingStart(self.0, self.1);
         let until = Until(self.0.due_time(self.1));
-        write!(
-            f,
-            "; waits for {kind}{id}{name} {number}{since}{started}{until}"
-        )
+        write!(f, "{kind}{id}{name} {number}{since}{started}{until}")
     }
 }
 
@@ -120,8 +118,8 @@ fn write_thing<O: Write>(view: &View, thing: &ViewedThing, writer: &mut O) -> io
     }
     match view.events.get().get(thing.opened) {
         Some(event) => {
-            let text = OpenThing(view, thing, event);
-            write!(writer, "{text}")
+            let text = AwaitedThing(view, thing, event);
+            write!(writer, "; waits for {text}")
         }
         None => Ok(()),
     }
@@ -138,6 +136,22 @@ fn write_things<O: Write>(view: &View, writer: &mut O) -> io::Result<()>
     Ok(())
 }
 
+/// The workflow task for which a run waits, by the event that scheduled it: since when, and whether
+/// a worker has started it.
+#[derive(Drop)]
+pub struct AwaitedTask<'a>(pub &'a View, pub OpenTask, pub &'a ViewedEvent);
+
+impl fmt::Display for AwaitedTask<'_> {
+    ghost output = { λ a. Some (waits.awaited_task a.0.now a.1 a.2.now) };
+
+    fn fmt<W: fmt::Write>(&self, f: &mut fmt::Formatter<W>) -> fmt::Result {
+        let number = Number(self.2);
+        let since = LabelText(" since ", self.2.moment.get());
+        let started = StartedText(self.0, self.1.started);
+        write!(f, "a workflow task {number}{since}{started}")
+    }
+}
+
 /// That a run waits for a workflow task.
 #[derive(Drop)]
 struct TaskText<'a>(&'a View, Option<OpenTask>);
@@ -151,10 +165,8 @@ impl fmt::Display for TaskText<'_> {
         };
         match self.0.events.get().get(task.scheduled) {
             Some(event) => {
-                let number = Number(event);
-                let since = LabelText(" since ", event.moment.get());
-                let started = StartedText(self.0, task.started);
-                write!(f, "; waits for a workflow task {number}{since}{started}")
+                let text = AwaitedTask(self.0, task, event);
+                write!(f, "; waits for {text}")
             }
             None => Ok(()),
         }
