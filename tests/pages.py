@@ -7,9 +7,10 @@ Each page is read by a parser: its tags balance, nothing in it runs or is fetche
 by an id is there, and the times of the picture are those of the table. Its verdict is the line of `replay`, the event that is
 marked is the one that the line names, and both sides of a difference are those that `replay` tells. Whatever the history holds
 stands as text: a history whose names are hostile has the very tags of the same history with plain names. A run of a table has
-that table with marks at the rows that it took, and no other page has one. Things are named by their types, each event leads to
-its line by an id, and many things of a type share a row of the picture; of more than 300 those that failed or are open are
-shown, and the slowest. The page of `check --html` has each promise with its mark, and the jobs that break it. The pictures in
+that table with marks at the rows that it took, and no other page has one. The head says what the first lines of `explain
+--recorded` say, and of an open run what it waits for; a line tells a failure with its causes, and has their stack traces. Things
+are named by their types, each event leads to its line by an id, and many things of a type share a row of the picture; of more
+than 300 those that failed or are open are shown, and the slowest. The page of `check --html` has each promise with its mark, and the jobs that break it. The pictures in
 docs/pictures are those of the pages that the program makes now.
 
     tests/pages.py [--program PATH]       crates/wfhost/out/wfhost, where it isn't given
@@ -37,12 +38,6 @@ from rows import PROGRAM, TOP, need, try_rows, words_of
 
 EXAMPLES = TOP / "examples" / "histories"
 RUN = TOP / "examples" / "runs" / "canceled_order.json"
-# The pictures of docs/pictures: each the words that make its page, and the id of the heading above it there.
-DRAWINGS = {
-    "canceled_order": (["explain", "--html", RUN], "way"),
-    "canceled_order_over_time": (["explain", "--html", RUN], "picture"),
-    "broken_order": (["check", "--html", TOP / "examples/broken/order.json"], "states"),
-}
 VOID = {"meta"}
 KNOWN = set(
     "html head meta title style body header h1 h2 h3 p dl div dt dd main section pre code svg desc defs pattern line"
@@ -65,6 +60,8 @@ NOT_DECIDED = ("undecided", "? not decided")
 STAMP = r"\d+-\d\d-\d\d \d\d:\d\d:\d\d(?:\.\d+)?"
 WIDTHS = {"wide": 1280, "narrow": 420}
 EVENTS = 51_200
+# The histories of which the head of the page is told beside the text of `explain --recorded`.
+HEADED = ("go", "typescript", "java", "python", "troubles", "nap", "crowded", "table")
 # The names in two histories that are alike otherwise.
 NAMES = {
     "plain": [f"plain-{i}" for i in range(8)] + ["PlainType"],
@@ -108,6 +105,10 @@ class Page(HTMLParser):
         self.in_lane = False
         self.rows = []
         self.tasks = []
+        self.facts = {}
+        self.fact = ""
+        self.waits = []
+        self.sections = []
         self.part = None
         self.parts = {"title": "", "verdict": "", "fault-word": ""}
         self.sides = []
@@ -142,12 +143,20 @@ class Page(HTMLParser):
             self.rows.append({"class": classes, "cells": []})
         if tag in ("td", "th") and "tbody" in self.open and self.rows:
             self.rows[-1]["cells"].append("")
-        if tag == "details":
+        if tag == "details" and classes != ["trace"]:
             self.tasks.append({"open": "open" in names, "lines": []})
         if tag == "li" and "details" in self.open:
-            self.tasks[-1]["lines"].append({"class": classes, "text": "", "id": names.get("id")})
-        if tag == "pre":
+            self.tasks[-1]["lines"].append({"class": classes, "text": "", "id": names.get("id"), "trace": ""})
+        elif tag == "li" and "waits" in self.sections:
+            self.waits.append("")
+        if tag == "pre" and "li" not in self.open:
             self.sides.append("")
+        if tag == "section":
+            self.sections = classes
+        if tag == "dt":
+            self.fact = ""
+        if tag == "dd":
+            self.facts[self.fact] = ""
         if tag not in VOID:
             self.open.append(tag)
 
@@ -174,10 +183,18 @@ class Page(HTMLParser):
             self.lanes[-1]["title"] += data
         if self.rows and self.rows[-1]["cells"] and ("td" in self.open or "th" in self.open):
             self.rows[-1]["cells"][-1] += data
-        if "pre" in self.open:
+        if "pre" in self.open and "li" not in self.open:
             self.sides[-1] += data
-        if "details" in self.open and "li" in self.open:
+        if self.open.count("details") == 1 and "li" in self.open:
             self.tasks[-1]["lines"][-1]["text"] += data
+        if "pre" in self.open and "li" in self.open:
+            self.tasks[-1]["lines"][-1]["trace"] += data
+        if self.open[-1:] == ["li"] and "waits" in self.sections and "details" not in self.open:
+            self.waits[-1] += data
+        if self.open[-1:] == ["dt"]:
+            self.fact += data
+        if self.open[-1:] == ["dd"]:
+            self.facts[self.fact] += data
 
     def handle_comment(self, data):
         self.wrong.append(f"a comment {data[:40]!r}")
@@ -230,6 +247,26 @@ class Page(HTMLParser):
             x = int(sign.get("x") or sign["cx"])
             if not 200 <= x <= 830 or int(sign.get("width", 0)) + x > 833:
                 wrong.append(f"a sign from {x}, {sign.get('width')} wide")
+        return wrong
+
+    def judge_head(self, told):
+        """What is wrong with the facts of the run, beside the lines of `explain --recorded`."""
+        _, names, status, *rest = told.stdout.decode().splitlines()
+        facts = dict.fromkeys(("Workflow id", "Run id", "Task Queue", "Parent", "Status"), "") | self.facts
+        parent = facts["Parent"] if facts["Parent"] == "no parent" else f"parent {facts['Parent']}"
+        previous = f", goes on from run {facts['Goes on from run']}" if "Goes on from run" in facts else ""
+        said = f"workflow id {facts['Workflow id']}, run id {facts['Run id']}, Task Queue {facts['Task Queue']}, {parent}{previous}"
+        wrong = [] if said == names else [f"the page says {said!r}, the text {names!r}"]
+        closed = re.fullmatch(r"(\w+)(?: \(event (\d+)\) ([^,]*)(?:, after .*?)?(?:, goes on in run (.*))?)?", status)
+        word, event, moment, following = closed.groups()
+        given = facts["Status"].split(" by event ")
+        if given[0] != word or len(given) == 2 and not given[1].startswith(f"{event}, {moment[:19].replace('T', ' ')}"):
+            wrong.append(f"the page says {facts['Status']!r}, the text {status!r}")
+        if (len(given) == 2) != bool(event) or facts.get("Goes on in run") != following:
+            wrong.append(f"the page goes on in {facts.get('Goes on in run')}, the text {status!r}")
+        waits = rest[-1].split("; waits for ")[1:] if word == "Running" else []
+        if [one for one in self.waits if "nothing that" not in one] != waits or bool(self.waits) != (word == "Running"):
+            wrong.append(f"the page waits for {self.waits}, the text {rest[-1:]}")
         return wrong
 
     def judge_verdict(self, told, name):
@@ -414,6 +451,60 @@ def of_python():
         else:
             activity(history, str(number), "charge", fails="no such card" if number == 60 else None)
     history.task()
+    return history.text()
+
+
+def of_troubles():
+    """A run with names, of an SDK: a workflow task fails, and an activity after its last attempt, with causes that have stack
+    traces. The run goes on from one, and waits for a timer, a child and a workflow task."""
+    history = History()
+    queue, parent = {"name": "billing"}, {"workflowId": "batch-7", "runId": "0a0a"}
+    names = {"workflowId": "invoice-12", "originalExecutionRunId": "5c5c", "continuedExecutionRunId": "4b4b"}
+    history.add("WorkflowExecutionStarted", workflowType={"name": "Invoice"}, taskQueue=queue, parentWorkflowExecution=parent, **names)
+    scheduled = str(history.add("WorkflowTaskScheduled"))
+    started = str(history.add("WorkflowTaskStarted", scheduledEventId=scheduled))
+    failure = {"message": "no such field", "applicationFailureInfo": {"type": "TypeError"}, "stackTrace": "at run (invoice.ts:4)"}
+    cause = "WORKFLOW_TASK_FAILED_CAUSE_WORKFLOW_WORKER_UNHANDLED_FAILURE"
+    history.add("WorkflowTaskFailed", scheduledEventId=scheduled, startedEventId=started, cause=cause, failure=failure)
+    history.task()
+    scheduled = str(history.add("ActivityTaskScheduled", activityId="1", activityType={"name": "Charge"}))
+    started = str(history.add("ActivityTaskStarted", scheduledEventId=scheduled, attempt=3))
+    timeout = {"message": "too <b>slow</b>", "timeoutFailureInfo": {"timeoutType": "TIMEOUT_TYPE_START_TO_CLOSE"}, "stackTrace": "Call.java\n\tat Call.run(Call.java:9)\n"}
+    failure = {"message": "declined", "applicationFailureInfo": {"type": "CardError"}, "stackTrace": "".join(f"\tat Card.pay(Card.java:{i})\n" for i in range(120)), "cause": timeout}
+    history.add("ActivityTaskFailed", scheduledEventId=scheduled, startedEventId=started, failure=failure, retryState="RETRY_STATE_MAXIMUM_ATTEMPTS_REACHED")
+    history.task()
+    history.add("TimerStarted", timerId="24", startToFireTimeout="1209600s")
+    history.add("StartChildWorkflowExecutionInitiated", workflowId="dunning-12", workflowType={"name": "Dunning"})
+    history.add("WorkflowTaskScheduled")
+    return history.text()
+
+
+def judge_troubles(page):
+    """What is wrong with the page of that."""
+    lines = {one["id"]: one for task in page.tasks for one in task["lines"]}
+    task, step = lines["event-4"], lines["event-10"]
+    wrong = []
+    for text in ("because TypeError: no such field", "cause WORKFLOW_TASK_FAILED_CAUSE_WORKFLOW_WORKER_UNHANDLED_FAILURE"):
+        wrong += [] if text in task["text"] else [f"no {text!r} in {task['text']!r}"]
+    chain = "CardError: declined <- TIMEOUT_TYPE_START_TO_CLOSE: too <b>slow</b>, retry state RETRY_STATE_MAXIMUM_ATTEMPTS_REACHED"
+    wrong += [] if f", because {chain}" in step["text"] else [f"no {chain!r} in {step['text']!r}"]
+    wrong += [] if any(row["cells"][6] == f"failed: {chain}" for row in page.rows) else [f"no row says {chain!r}"]
+    wrong += [] if task["trace"] == "TypeError: no such field\nat run (invoice.ts:4)\n" else [f"the trace {task['trace']!r}"]
+    told = step["trace"].splitlines()
+    if told[:2] != ["CardError: declined", "at Card.pay(Card.java:0)"] or len(told) != 100 or "24 more lines." not in "".join(page.texts):
+        wrong.append(f"the trace {told[:2]} of {len(told)} lines")
+    if len(page.waits) != 3 or not re.search(r"^timer 24 .* until 2024-05-15", page.waits[0]) or "dunning-12 Dunning" not in page.waits[1]:
+        wrong.append(f"it waits for {page.waits}")
+    return wrong
+
+
+def many_open():
+    """A run that waits for 50 activities."""
+    history = History()
+    history.add("WorkflowExecutionStarted", workflowType={"name": "Many"})
+    history.task()
+    for number in range(50):
+        history.add("ActivityTaskScheduled", activityId=str(number), activityType={"name": "Step"})
     return history.text()
 
 
@@ -667,6 +758,7 @@ def histories():
     texts = {name: json.dumps(whole) for name, whole in edited()}
     second = ("ActivityTaskScheduled", {"activityId": "2", "activityType": {"name": "more"}})
     texts |= {"go": of_go(), "typescript": of_typescript(), "java": of_java(), "python": of_python(), "crowd": crowd()}
+    texts |= {"troubles": of_troubles(), "many-open": many_open()}
     texts |= {"no-event": uneven([]), "other": uneven([second]), "crowded": crowded()}
     texts |= {name: named(given) for name, given in NAMES.items()} | {"big": big()}
     worded = [one[:60].replace(" ", "_") for one in NAMES["hostile"]]
@@ -689,6 +781,12 @@ def trials(program, room, pages, has_sizes):
                 faults.append("other tags than with plain names")
             if name in ("go", "typescript", "java", "python"):
                 faults += judge_sdk(page, name)
+            if name == "troubles":
+                faults += judge_troubles(page)
+            if name == "many-open" and (len(page.waits) != 41 or page.waits[40] != "10 more"):
+                faults.append(f"it waits for {len(page.waits)}, at last {page.waits[-1:]}")
+            if name in HEADED:
+                faults += page.judge_head(program.run("explain", "--recorded", file))
             if name == "crowd":
                 faults += judge_crowd(page)
             if name in ("table", "hostile-table") and not recorded:
@@ -711,13 +809,33 @@ def trials(program, room, pages, has_sizes):
         yield bad, "" if is_right else f"{one} in place of {other}"
 
 
-def shown(program, draws):
+# The pictures of docs/pictures: each the words that make its page, with a function for a history that is made, and the id of the
+# heading above it there.
+DRAWINGS = {
+    "canceled_order": (["explain", "--html", RUN], "way"),
+    "canceled_order_over_time": (["explain", "--html", RUN], "picture"),
+    "go_order_over_time": (["explain", "--html", "--recorded", of_go], "picture"),
+    "broken_order": (["check", "--html", TOP / "examples/broken/order.json"], "states"),
+}
+
+
+def file_of(word, room):
+    """A word of a command; of a history that is made the file in which it stands then."""
+    if not callable(word):
+        return word
+    file = room / f"{word.__name__}.json"
+    file.write_text(word())
+    return file
+
+
+def shown(program, room, draws):
     """Yields each picture of docs/pictures, with what is wrong with it; it is drawn anew if that is asked for."""
-    for name, (words, heading) in DRAWINGS.items():
+    for name, (given, heading) in DRAWINGS.items():
+        words = [file_of(word, room) for word in given]
         file, drawing = TOP / f"docs/pictures/{name}.svg", drawing_of(program.run(*words).stdout.decode(), heading)
         if draws:
             file.write_text(drawing)
-        is_right = file.read_text() == drawing
+        is_right = file.exists() and file.read_text() == drawing
         yield file.name, "" if is_right else f"it is not the picture of {' '.join(map(str, words))}: --draw writes it"
 
 
@@ -733,10 +851,10 @@ def main():
     if "--html" not in program.run("explain", "--help").stdout.decode():
         parser.error("the program makes no pages")
     with tempfile.TemporaryDirectory() as room:
-        rows = chain(trials(program, Path(room), pages, asked.sizes), shown(program, asked.draw))
+        rows = chain(trials(program, Path(room), pages, asked.sizes), shown(program, Path(room), asked.draw))
         status = try_rows(rows, asked)
     if asked.shots and shutil.which("chromium"):
-        shoot({name: pages[name] for name in ("nap", "racer-id-6", "crowded", "hostile", "big", "table") if name in pages}, asked.shots)
+        shoot({name: pages[name] for name in ("nap", "racer-id-6", "crowded", "hostile", "big", "table", "troubles") if name in pages}, asked.shots)
     return status
 
 

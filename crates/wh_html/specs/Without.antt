@@ -19,7 +19,7 @@ abbrev pub without_lane : Lane → Lane
 without_lane lane = record lane { name = []; type_name = option_map (λ _. []) lane.type_name; words = [] }
 
 abbrev pub without_line : TaskLine → TaskLine
-without_line line = record line { text = [] }
+without_line line = record line { text = []; trace = map (λ _. []) line.trace }
 
 abbrev pub without_task : Task → Task
 without_task task = record task { heading = []; lines = map without_line task.lines }
@@ -30,6 +30,7 @@ without_texts page =
       title = [];
       verdict = [];
       facts = map without_fact page.facts;
+      waits = map (λ _. []) page.waits;
       difference = option_map without_difference page.difference;
       lanes = map without_lane page.lanes;
       tasks = map without_task page.tasks;

@@ -115,6 +115,8 @@ pub struct TaskLine {
     pub event: Option<u64>,
     /// Its text.
     pub text: Text,
+    /// The stack traces of the failure that it tells of, line by line; no lines if there are none.
+    pub trace: Items<Text>,
 }
 
 /// A workflow task.
@@ -161,6 +163,8 @@ pub struct Page {
     pub good: Option<bool>,
     /// The workflow type, ids, counts and the like.
     pub facts: Items<Fact>,
+    /// What an open run waits for, in words; nothing if the run is closed.
+    pub waits: Items<Text>,
     /// The first difference, if there is one.
     pub difference: Option<Difference>,
     /// The event of the fault, if there is one.

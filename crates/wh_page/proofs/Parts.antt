@@ -54,11 +54,11 @@ verdict-part stops page = left _ _ _ (right _ _ _ (left _ _ _ (here _)))
 
 row-part : (stops : List Stop) (page : Page) (part : Html) → IsPart part (each (row_html page.fault) page.lanes) → IsPart part (body_html stops page)
 unfolding body_html table_html
-row-part stops page part h = right _ _ _ (right _ _ _ (right _ _ _ (left _ _ _ (right _ _ _ (right _ _ _ (right _ _ _ (left _ _ _ h)))))))
+row-part stops page part h = right _ _ _ (right _ _ _ (right _ _ _ (right _ _ _ (left _ _ _ (right _ _ _ (right _ _ _ (right _ _ _ (left _ _ _ h))))))))
 
 task-part : (stops : List Stop) (page : Page) (part : Html) → IsPart part (each task_html (shown_tasks page)) → IsPart part (body_html stops page)
 unfolding body_html tasks_html
-task-part stops page part h = right _ _ _ (right _ _ _ (right _ _ _ (right _ _ _ (right _ _ _ (right _ _ _ (left _ _ _ h))))))
+task-part stops page part h = right _ _ _ (right _ _ _ (right _ _ _ (right _ _ _ (right _ _ _ (right _ _ _ (right _ _ _ (left _ _ _ h)))))))
 
 pub shows_its_parts : ShowsItsParts
 shows_its_parts stops page more =

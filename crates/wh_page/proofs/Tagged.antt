@@ -1,10 +1,10 @@
 -- The tags of a page are those of the page without its texts.
-use Rattle.std.proofs.Common.{◌≡◌, ◌+◌, ℕ, Bool, true, false, cond, Option, Some, None, List, [], ◌∷◌, ◌∙◌, map, drop, length, refl, ap, subst, append-nil, sym}
+use Rattle.std.proofs.Common.{◌≡◌, ◌+◌, ◌-◌, ℕ, Bool, true, false, cond, Option, Some, None, List, [], ◌∷◌, ◌∙◌, map, take, drop, length, refl, ap, subst, append-nil, sym}
 use Rattle.std.proofs.lemmas.List.{length-map, take-map, drop-map}
 use Rattle.std.specs.Prelude.{◌==◌, not, codes}
 use Rattle.std.specs.Option.{option_map}
 use Rattle.std.specs.List.{list_all, position_or_len}
-use Rattle.wh_html.specs.Html.{bytes, each}
+use Rattle.wh_html.specs.Html.{nothing, bytes, each}
 use Rattle.wh_html.specs.Tags.{tags}
 use Rattle.wh_html.proofs.Alike.{Alike, is_inner, last, words, texts, both, none, mark, word, text, num, each-alike, decimal-inner}
 use Rattle.wh_html.proofs.Inner.{time, lapse}
@@ -22,7 +22,7 @@ use Rattle.wh_html.proofs.WordsInner.{kind-inner, side-inner}
 use Rattle.wh_html.proofs.Drawn.{IsClosed, choose, classes-alike, picture-alike, tasks-shown}
 use Rattle.wh_page.specs.Frames.{head_html, verdict_class, verdict_html, fact_html, at_html, sides_html, difference_html, frame_html}
 use Rattle.wh_page.specs.Tables.{count_html, moment_html, took_html, label_html, attempts_html, row_head_html, row_html, table_html}
-use Rattle.wh_page.specs.TaskTexts.{number_html, anchor_html, line_html, left_html, is_fault, left_before, shown_lines, left_after, lines_html, open_words, task_html, tasks_html, note_html, notes_html}
+use Rattle.wh_page.specs.TaskTexts.{number_html, anchor_html, trace_line_html, more_html, folded_html, trace_html, line_head_html, line_html, left_html, is_fault, left_before, shown_lines, left_after, lines_html, open_words, task_html, tasks_html, note_html, waits_html, notes_html}
 use Rattle.wh_page.specs.Pages.{body_html, page_html}
 use Rattle.wh_page.specs.Laws.{TextsAreNoTags}
 
@@ -100,11 +100,37 @@ anchor-alike : (event : Option ℕ) → Alike true true (anchor_html event) (anc
 anchor-alike None = none
 anchor-alike (Some event) = mark _ (num _ (last _))
 
-line-alike : (line : TaskLine) → Alike false false (line_html line) (line_html (without_line line))
-unfolding line_html
-line-alike line =
+trace-line-alike : (line : List ℕ) → Alike false false (trace_line_html line) (trace_line_html [])
+trace-line-alike line = text _ _ _ (last _)
+
+more-alike : (left : ℕ) → IsClosed (more_html left)
+more-alike left = choose (left == 0) _ _ none (mark _ (num _ (last _)))
+
+folded-alike : (lines : List (List ℕ)) → Alike false false (folded_html lines) (folded_html (map (λ _. []) lines))
+folded-alike lines =
+    let blank : List ℕ → List ℕ = λ _. [] in
+    rw (take-map blank 100 lines, length-map lines blank)
+    (mark _ (both (each-alike trace_line_html (λ _. []) trace-line-alike (take 100 lines)) (mark _ (both (more-alike (length lines - 100)) (last _)))))
+
+folded-if : (lines : List (List ℕ)) (b : Bool) → Alike false false (cond b nothing (folded_html lines)) (cond b nothing (folded_html (map (λ _. []) lines)))
+folded-if lines true = none
+folded-if lines false = folded-alike lines
+
+trace-alike : (lines : List (List ℕ)) → Alike false false (trace_html lines) (trace_html (map (λ _. []) lines))
+trace-alike lines =
+    let blank : List ℕ → List ℕ = λ _. [] in
+    subst (λ n. Alike false false (trace_html lines) (cond (n == 0) nothing (folded_html (map blank lines)))) (sym (length-map lines blank))
+    (folded-if lines (length lines == 0))
+
+line-head-alike : (line : TaskLine) → Alike false false (line_head_html line) (line_head_html (without_line line))
+unfolding line_head_html
+line-head-alike line =
     mark _ (word _ (side-inner line.side) (mark _ (both (anchor-alike line.event) (mark _ (word _ (side-inner line.side)
     (mark _ (both (number-alike line.event) (mark _ (text _ _ _ (last _))))))))))
+
+line-alike : (line : TaskLine) → Alike false false (line_html line) (line_html (without_line line))
+unfolding line_html
+line-alike line = both (line-head-alike line) (both (trace-alike line.trace) (last _))
 
 left-alike : (where-of : List ℕ) (left : ℕ) → list_all is_inner where-of ≡ true → IsClosed (left_html where-of left)
 left-alike w left e = choose (left == 0) _ _ none (mark _ (num _ (word _ e (last _))))
@@ -161,6 +187,10 @@ pub notes-alike : (notes : List (List ℕ)) → Alike false false (notes_html no
 notes-alike [] = none
 notes-alike (note ∷ notes) = mark _ (both (each-alike note_html (λ _. []) note-alike (note ∷ notes)) (last _))
 
+waits-alike : (waits : List (List ℕ)) → Alike false false (waits_html waits) (waits_html (map (λ _. []) waits))
+waits-alike [] = none
+waits-alike (wait ∷ waits) = mark _ (both (each-alike note_html (λ _. []) note-alike (wait ∷ waits)) (last _))
+
 -- what stands above it
 head-alike : (page : Page) → Alike false false (head_html page) (head_html (without_texts page))
 unfolding head_html without_texts
@@ -179,8 +209,8 @@ body-alike : (stops : List Stop) (page : Page) → Alike false false (body_html 
 unfolding body_html without_texts
 body-alike stops page =
     rw (tasks-shown page, length-map page.tasks without_task)
-    (both (frame-alike page) (both (notes-alike page.notes) (both (picture-alike page.fault stops page.lanes page.rows page.things (shown_tasks page))
-    (both (table-alike page.fault page.lanes page.things) (tasks-alike (shown_tasks page) (length page.tasks))))))
+    (both (frame-alike page) (both (waits-alike page.waits) (both (notes-alike page.notes) (both (picture-alike page.fault stops page.lanes page.rows page.things (shown_tasks page))
+    (both (table-alike page.fault page.lanes page.things) (tasks-alike (shown_tasks page) (length page.tasks)))))))
 
 pub texts_are_no_tags : TextsAreNoTags
 texts_are_no_tags stops page more other same =

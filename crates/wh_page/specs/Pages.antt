@@ -6,13 +6,14 @@ use Rattle.wh_html.specs.Html.{Html, markup, ◌⊕◌}
 use Rattle.wh_page.specs.Frames.{frame_html}
 use Rattle.wh_html.specs.Pictures.{picture_html}
 use Rattle.wh_page.specs.Tables.{table_html}
-use Rattle.wh_page.specs.TaskTexts.{tasks_html, notes_html}
+use Rattle.wh_page.specs.TaskTexts.{tasks_html, waits_html, notes_html}
 use Rattle.wh_html.specs.Views.{shown_tasks}
 
 -- the page, but for its end, with its times at these stops
 unfoldable pub body_html : List Stop → Page → Html
 body_html stops page =
     frame_html page
+    ⊕ waits_html page.waits
     ⊕ notes_html page.notes
     ⊕ picture_html page.fault stops page.lanes page.rows page.things (shown_tasks page)
     ⊕ table_html page.fault page.lanes page.things

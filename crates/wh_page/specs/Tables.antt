@@ -58,7 +58,7 @@ row_html fault lane =
     ⊕ moment_html lane.ended
     ⊕ took_html lane.opened lane.ended
     ⊕ markup (codes "<td class=\"words\">")
-    ⊕ hole 300 lane.words
+    ⊕ hole 600 lane.words
     ⊕ markup (codes "</td>")
     ⊕ attempts_html lane.attempts
     ⊕ markup (codes "</tr>\n")

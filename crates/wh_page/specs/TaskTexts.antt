@@ -1,4 +1,4 @@
--- The tasks of a run, and the notes.
+-- The tasks of a run, what it waits for, and the notes.
 use Rattle.std.specs.Prelude.{ℕ, ◌-◌, ◌==◌, Bool, true, false, min, if◌then◌else◌, Option, Some, None, unwrap_or, position, List, [], ◌∷◌, take, drop, codes, length}
 use Rattle.wh_html.specs.declared.page.TaskLine.{TaskLine}
 use Rattle.wh_html.specs.declared.page.Side.{Side}
@@ -18,9 +18,32 @@ abbrev pub anchor_html : Option ℕ → Html
 anchor_html None = nothing
 anchor_html (Some event) = markup (codes " id=\"event-") ⊕ number event ⊕ markup (codes "\"")
 
--- a line of a task
-unfoldable pub line_html : TaskLine → Html
-line_html line =
+-- a line of a stack trace
+abbrev pub trace_line_html : List ℕ → Html
+trace_line_html line = hole 300 line ⊕ markup (codes "\n")
+
+-- how many lines of stack traces are left out, if some are
+abbrev pub more_html : ℕ → Html
+more_html left =
+    if left == 0 then nothing
+    else (markup (codes "<p class=\"soft\">") ⊕ number left ⊕ markup (codes " more lines.</p>\n"))
+
+-- stack traces, folded, with 100 of their lines
+abbrev pub folded_html : List (List ℕ) → Html
+folded_html lines =
+    markup (codes "<details class=\"trace\"><summary>Stack trace</summary>\n<pre>")
+    ⊕ each trace_line_html (take 100 lines)
+    ⊕ markup (codes "</pre>\n")
+    ⊕ more_html (length lines - 100)
+    ⊕ markup (codes "</details>")
+
+-- the same, if there are some
+abbrev pub trace_html : List (List ℕ) → Html
+trace_html lines = if length lines == 0 then nothing else folded_html lines
+
+-- a line of a task without the stack traces
+unfoldable pub line_head_html : TaskLine → Html
+line_head_html line =
     markup (codes "<li class=\"")
     ⊕ plain (side_word line.side)
     ⊕ markup (codes "\"")
@@ -30,8 +53,12 @@ line_html line =
     ⊕ markup (codes "</span> <span class=\"event\">")
     ⊕ number_html line.event
     ⊕ markup (codes "</span> <code>")
-    ⊕ hole 300 line.text
-    ⊕ markup (codes "</code></li>\n")
+    ⊕ hole 600 line.text
+    ⊕ markup (codes "</code>")
+
+-- a line of a task
+unfoldable pub line_html : TaskLine → Html
+line_html line = line_head_html line ⊕ trace_html line.trace ⊕ markup (codes "</li>\n")
 
 -- how many lines of a task are left out before or after those that are shown, if some are
 abbrev pub left_html : (words : List ℕ) → ℕ → Html
@@ -98,6 +125,14 @@ tasks_html tasks total =
 -- a note
 abbrev pub note_html : List ℕ → Html
 note_html note = markup (codes "<li>") ⊕ hole 300 note ⊕ markup (codes "</li>\n")
+
+-- what an open run waits for, if it is one
+abbrev pub waits_html : List (List ℕ) → Html
+waits_html [] = nothing
+waits_html (wait ∷ waits) =
+    markup (codes "<section class=\"waits\">\n<h2>What the run waits for</h2>\n<ul>\n")
+    ⊕ each note_html (wait ∷ waits)
+    ⊕ markup (codes "</ul>\n</section>\n")
 
 -- notes, if there are some
 abbrev pub notes_html : List (List ℕ) → Html

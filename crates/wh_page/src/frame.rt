@@ -12,6 +12,10 @@ use wh_html::{Difference, Escaped, Fact, Page};
 /// The most characters of a name or a fact that a page shows.
 pub(crate) const NAME: usize = 300;
 
+/// The most characters of the outcome of a thing, and of the line of an event: of the failure and its
+/// causes that they tell.
+pub(crate) const WORDS: usize = 600;
+
 /// The most characters of a verdict: more than any verdict on a file has.
 const VERDICT: usize = 400;
 

@@ -28,6 +28,9 @@ dd{margin:0;overflow-wrap:anywhere;unicode-bidi:isolate}
 .sides{display:grid;grid-template-columns:1fr 1fr;gap:1rem}
 .side{border:1px solid var(--line);border-left:4px solid var(--bad);border-radius:6px;padding:.6rem .9rem;background:var(--panel)}
 .side h3{margin:0 0 .3rem;font-size:13px;color:var(--soft);font-weight:600}
+.waits{margin:1.5rem 0 0;padding:.6rem .9rem;border:1px solid var(--line);border-left:4px solid var(--activity);border-radius:6px;background:var(--panel)}
+.waits h2{margin:0 0 .3rem}
+ul{margin:0;padding-left:1.2rem;overflow-wrap:anywhere;unicode-bidi:isolate}
 .scroll{overflow-x:auto}
 table{border-collapse:collapse;width:100%;font-size:13.5px}
 th,td{text-align:left;padding:.3rem .9rem .3rem 0;border-bottom:1px solid var(--line);vertical-align:top;unicode-bidi:isolate}
@@ -58,9 +61,11 @@ details li>*{min-width:0}
 li .side-word,li .event{color:var(--soft);font-size:13px;font-variant-numeric:tabular-nums;display:inline}
 li code{white-space:pre-wrap;overflow-wrap:anywhere;unicode-bidi:isolate}
 li.gives code{font-weight:600}
+.trace{grid-column:3;border:0}
+.trace summary{padding:0;color:var(--soft);font-size:13px}
 li.fault .side-word{color:var(--bad);font-weight:600}
 li:target{background:var(--panel);outline:2px solid var(--activity)}
-@media (max-width:40rem){.sides{grid-template-columns:1fr}details li{grid-template-columns:4.5rem 1fr;gap:0 .6rem;padding:.1rem 0 .4rem}li code{grid-column:1/-1}summary .time{float:none;display:block;margin:0}}
+@media (max-width:40rem){.sides{grid-template-columns:1fr}details li{grid-template-columns:4.5rem 1fr;gap:0 .6rem;padding:.1rem 0 .4rem}li code,.trace{grid-column:1/-1}summary .time{float:none;display:block;margin:0}}
 ";
 
 /// The styles of the picture, and of the page in print.
@@ -94,5 +99,5 @@ svg .tick{fill:var(--soft)}
 svg .tick.hit{fill:var(--bad)}
 svg .fault{fill:none;stroke:var(--bad);stroke-width:1.5;stroke-dasharray:4 3}
 svg .fault-word{fill:var(--bad);font-weight:600;text-anchor:middle}
-@media print{body{max-width:none;padding:0;font-size:12px}.scroll{overflow:visible}svg{min-width:0}details{break-inside:avoid}details::details-content{content-visibility:visible;display:block}tr{break-inside:avoid}.verdict,svg *,.kind::before,.key span::before{print-color-adjust:exact;-webkit-print-color-adjust:exact}}
+@media print{body{max-width:none;padding:0;font-size:12px}.scroll{overflow:visible}h2,h3{break-after:avoid}.picture{break-inside:avoid}svg{min-width:0;max-height:24cm}details{break-inside:avoid}details::details-content{content-visibility:visible;display:block}tr{break-inside:avoid}.verdict,svg *,.kind::before,.key span::before{print-color-adjust:exact;-webkit-print-color-adjust:exact}}
 ";

@@ -4,7 +4,7 @@ ghost use Rattle.std.specs.Prelude.{◌≡◌, Some};
 ghost use Rattle.wh_html.specs.Html.{bytes, each};
 ghost use Rattle.wh_page.specs.Tables.{count_html, moment_html, took_html, label_html, attempts_html, row_head_html, row_html, table_html};
 
-use crate::frame::NAME;
+use crate::frame::{NAME, WORDS};
 use std::fmt;
 use wh_html::{Classes, Escaped, Lane, Moment, Stamp, time_between};
 
@@ -148,7 +148,7 @@ impl fmt::Display for ThingRow<'_> {
         let took = TookCell(lane.opened, lane.ended);
         let words = Escaped {
             text: &lane.words,
-            most: NAME,
+            most: WORDS,
         };
         let attempts = AttemptsCell(lane.attempts);
         write!(

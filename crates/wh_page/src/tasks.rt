@@ -1,10 +1,11 @@
-//! Writes the tasks of a run, and the notes.
+//! Writes the tasks of a run, what it waits for, and the notes.
 
 ghost use Rattle.std.specs.Prelude.{◌≡◌, Some, position};
 ghost use Rattle.wh_html.specs.Html.{bytes, each};
-ghost use Rattle.wh_page.specs.TaskTexts.{number_html, anchor_html, line_html, left_html, is_fault, left_before, shown_lines, left_after, lines_html, open_words, task_html, tasks_html, note_html, notes_html};
+ghost use Rattle.wh_page.specs.TaskTexts.{number_html, anchor_html, trace_line_html, more_html, trace_html, line_head_html, line_html, left_html, is_fault, left_before, shown_lines};
+ghost use Rattle.wh_page.specs.TaskTexts.{left_after, lines_html, open_words, task_html, tasks_html, note_html, waits_html, notes_html};
 
-use crate::frame::NAME;
+use crate::frame::{NAME, WORDS};
 use crate::table::Count;
 use std::fmt;
 use wh_events::Text;
@@ -15,6 +16,9 @@ const LINES: usize = 40;
 
 /// How many of them precede the line of the fault, if there are as many.
 const BEFORE: usize = 20;
+
+/// The most lines of stack traces that are shown at the line of an event.
+const TRACE: usize = 100;
 
 /// The event of a line, if there is one.
 #[derive(Clone, Copy)]
@@ -46,6 +50,84 @@ impl fmt::Display for Anchor {
     }
 }
 
+/// Lines of stack traces.
+#[derive(Drop)]
+struct TraceLines<'a>(&'a [Text]);
+
+impl fmt::Display for TraceLines<'_> {
+    ghost output = { λ t. Some (bytes (each trace_line_html t.0.now)) };
+
+    fn fmt<W: fmt::Write>(&self, f: &mut fmt::Formatter<W>) -> fmt::Result {
+        for line in self.0 {
+            let line = Escaped {
+                text: line,
+                most: NAME,
+            };
+            write!(f, "{line}\n")?;
+        }
+        Ok(())
+    }
+}
+
+/// How many lines of stack traces are left out, if some are.
+#[derive(Clone, Copy)]
+struct More(usize);
+
+impl fmt::Display for More {
+    ghost output = { λ m. Some (bytes (more_html m.0)) };
+
+    fn fmt<W: fmt::Write>(&self, f: &mut fmt::Formatter<W>) -> fmt::Result {
+        if self.0 == 0 {
+            return Ok(());
+        }
+        let left = self.0;
+        write!(f, "<p class=\"soft\">{left} more lines.</p>\n")
+    }
+}
+
+/// Stack traces, folded, if there are some.
+#[derive(Drop)]
+struct Trace<'a>(&'a [Text]);
+
+impl fmt::Display for Trace<'_> {
+    ghost output = { λ t. Some (bytes (trace_html t.0.now)) };
+
+    fn fmt<W: fmt::Write>(&self, f: &mut fmt::Formatter<W>) -> fmt::Result {
+        if self.0.is_empty() {
+            return Ok(());
+        }
+        let lines = TraceLines(first_items(self.0, TRACE));
+        let more = More(self.0.len().saturating_sub(TRACE));
+        write!(
+            f,
+            "<details class=\"trace\"><summary>Stack trace</summary>\n<pre>{lines}</pre>\n{more}</details>"
+        )
+    }
+}
+
+/// A line of a task without the stack traces.
+#[derive(Drop)]
+struct LineHead<'a>(&'a TaskLine);
+
+impl fmt::Display for LineHead<'_> {
+    ghost output = { λ r. Some (bytes (line_head_html r.0.now)) };
+
+    #[tactic(auto, unfolding(crate::specs::TaskTexts::line_head_html))]
+    fn fmt<W: fmt::Write>(&self, f: &mut fmt::Formatter<W>) -> fmt::Result {
+        let side = self.0.side.word();
+        let anchor = Anchor(self.0.event);
+        let event = LineEvent(self.0.event);
+        let text = Escaped {
+            text: &self.0.text,
+            most: WORDS,
+        };
+        write!(
+            f,
+            "<li class=\"{side}\"{anchor}><span class=\"side-word\">{side}</span> <span class=\"event\">{event}</span> <code>{text}</code>"
+        )
+    }
+}
+
 /// A line of a task.
 #[derive(Drop)]
 struct LineRow<'a>(&'a TaskLine);
@@ -55,17 +137,9 @@ impl fmt::Display for LineRow<'_> {
 
     #[tactic(auto, unfolding(crate::specs::TaskTexts::line_html))]
     fn fmt<W: fmt::Write>(&self, f: &mut fmt::Formatter<W>) -> fmt::Result {
-        let side = self.0.side.word();
-        let anchor = Anchor(self.0.event);
-        let event = LineEvent(self.0.event);
-        let text = Escaped {
-            text: &self.0.text,
-            most: NAME,
-        };
-        write!(
-            f,
-            "<li class=\"{side}\"{anchor}><span class=\"side-word\">{side}</span> <span class=\"event\">{event}</span> <code>{text}</code></li>\n"
-        )
+        let head = LineHead(self.0);
+        let trace = Trace(self.0.trace.get());
+        write!(f, "{head}{trace}</li>\n")
     }
 }
 
@@ -255,6 +329,25 @@ impl fmt::Display for NoteItems<'_> {
             write!(f, "<li>{note}</li>\n")?;
         }
         Ok(())
+    }
+}
+
+/// What an open run waits for, if it is one.
+#[derive(Drop)]
+pub(crate) struct Waits<'a>(pub(crate) &'a [Text]);
+
+impl fmt::Display for Waits<'_> {
+    ghost output = { λ w. Some (bytes (waits_html w.0.now)) };
+
+    fn fmt<W: fmt::Write>(&self, f: &mut fmt::Formatter<W>) -> fmt::Result {
+        if self.0.is_empty() {
+            return Ok(());
+        }
+        let items = NoteItems(self.0);
+        write!(
+            f,
+            "<section class=\"waits\">\n<h2>What the run waits for</h2>\n<ul>\n{items}</ul>\n</section>\n"
+        )
     }
 }
 

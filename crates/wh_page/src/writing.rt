@@ -8,7 +8,7 @@ ghost use Rattle.wh_page.specs.Pages.{body_html, end_html};
 
 use crate::frame::Frame;
 use crate::table::ThingTable;
-use crate::tasks::{Notes, Tasks};
+use crate::tasks::{Notes, Tasks, Waits};
 use std::io;
 use std::io::Write;
 use wh_html::{Axis, Page, Picture, shown_tasks};
@@ -20,6 +20,7 @@ fn write_parts<W: Write>(page: &Page, axis: &Axis, writer: &mut W) -> io::Result
         OnOk result (Appends (W.contents writer.old) (W.contents writer.new) (bytes html)) }
 {
     let frame = Frame(page);
+    let waits = Waits(page.waits.get());
     let notes = Notes(page.notes.get());
     let picture = Picture {
         fault: page.fault,
@@ -38,7 +39,7 @@ fn write_parts<W: Write>(page: &Page, axis: &Axis, writer: &mut W) -> io::Result
         tasks: shown_tasks(page),
         total: page.tasks.get().len(),
     };
-    write!(writer, "{frame}{notes}{picture}{table}{tasks}")
+    write!(writer, "{frame}{waits}{notes}{picture}{table}{tasks}")
 }
 
 /// Writes a page as one HTML file, but for its end. `axis` must be the axis of the page, as

@@ -16,7 +16,7 @@ use Rattle.wh_view.specs.declared.view.ThingKind.TheVariants as things
 use Rattle.wh_view.specs.Lookups.{event_id, event_type}
 use Rattle.wh_run_page.specs.declared.rows.PlacedThing.{PlacedThing}
 use Rattle.wh_run_page.specs.Moments.{event_at, moment_of, moment_or}
-use Rattle.wh_run_page.specs.Words.{after_label}
+use Rattle.wh_run_page.specs.Causes.{reason, ending_words}
 
 -- the kind of a lane
 abbrev pub lane_kind : ThingKind → Kind
@@ -78,10 +78,10 @@ abbrev pub word_of_kind : Option EventKind → List ℕ
 word_of_kind None = codes "ended"
 word_of_kind (Some kind) = outcome_word kind
 
--- the outcome of a thing in words, with the reason of a failure
+-- the outcome of a thing in words, with the failure and its causes, and why it was not tried again
 abbrev pub outcome_words : Option ViewedEvent → List ℕ
 outcome_words None = codes "open"
-outcome_words (Some event) = word_of_kind event.read.kind ++ after_label (codes ": ") event.failure
+outcome_words (Some event) = word_of_kind event.read.kind ++ (reason (codes ": ") event ++ ending_words event)
 
 -- the id and the type of what an event opened, if there is one
 abbrev pub id_at : Option ViewedEvent → List ℕ

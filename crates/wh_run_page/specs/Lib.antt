@@ -8,3 +8,6 @@ pub mod Tasks
 pub mod Facts
 pub mod Pages
 pub mod Laws
+pub mod Causes
+pub mod EventWords
+pub mod Waits

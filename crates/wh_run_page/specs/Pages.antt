@@ -11,6 +11,7 @@ use Rattle.wh_run_page.specs.Rows.{firsts_of, row_count, placed_things}
 use Rattle.wh_run_page.specs.Lanes.{lanes_of}
 use Rattle.wh_run_page.specs.Tasks.{tasks_of}
 use Rattle.wh_run_page.specs.Facts.{facts_of, notes_of}
+use Rattle.wh_run_page.specs.Waits.{waits_of}
 
 -- the page of a run whose events have these times, with these of its things
 unfoldable pub timed_page : View → List ℕ → Said → (shown : List ViewedThing) → Page
@@ -20,6 +21,7 @@ timed_page view times said shown =
       verdict = said.verdict;
       good = said.good;
       facts = facts_of view times;
+      waits = waits_of view;
       difference = said.difference;
       fault = option_map (moment_of times) (event_at view.events (index_at said.place));
       lanes = lanes_of view times (placed_things view shown);

@@ -14,7 +14,8 @@ use Rattle.wh_view_report.specs.Texts.{is_quiet}
 use Rattle.wh_run_page.specs.declared.headings.Sought.TheVariants.{Start}
 use Rattle.wh_run_page.specs.Headings.{first_like, heading}
 use Rattle.wh_run_page.specs.Moments.{number_of, moment_or}
-use Rattle.wh_run_page.specs.Words.{event_words}
+use Rattle.wh_run_page.specs.EventWords.{event_words}
+use Rattle.wh_run_page.specs.Causes.{trace_of}
 use Rattle.wh_run_page.specs.declared.tasks.Group.{Group}
 
 -- there is a place, and it is this one
@@ -36,7 +37,12 @@ side_at fault event = if is_at fault event.place then sides.Fault else side_of (
 -- the line of an event
 abbrev pub line_of : View → Option ℕ → ViewedEvent → TaskLine
 line_of view fault event =
-    record { side = side_at fault event; event = Some (number_of event); text = event_words view event }
+    record {
+      side = side_at fault event;
+      event = Some (number_of event);
+      text = event_words view event;
+      trace = flat_map trace_of event.details.failures;
+    }
 
 -- an event has a line, except for a workflow task that is scheduled or started; the event of the fault always has one
 abbrev pub has_line : Option ℕ → ViewedEvent → Bool

@@ -1,10 +1,5 @@
--- The text of an event on a page.
+-- Texts of which those of a page are made.
 use Rattle.std.specs.Prelude.{ℕ, List, [], ◌∷◌, ◌++◌, codes}
-use Rattle.std.specs.List.{flat_map}
-use Rattle.wh_view.specs.declared.view.View.{View}
-use Rattle.wh_view.specs.declared.view.ViewedEvent.{ViewedEvent}
-use Rattle.wh_view.specs.Lookups.{opening_of, event_id, event_type}
-use Rattle.wh_view_report.specs.Words.{attempt_text, mark_words}
 
 -- a text after a label; nothing if the text is empty
 abbrev pub after_label : List ℕ → List ℕ → List ℕ
@@ -15,18 +10,3 @@ after_label label (c ∷ cs) = label ++ c ∷ cs
 abbrev pub thing_text : (type_name id : List ℕ) → List ℕ
 thing_text [] id = after_label (codes " ") id
 thing_text (c ∷ cs) id = codes " " ++ (c ∷ cs ++ after_label (codes " #") id)
-
--- a value of an event
-abbrev pub value_text : List ℕ → List ℕ
-value_text value = codes "; " ++ value
-
--- the text of an event: its type, its thing, its attempt, the duration of a timer, why something failed, what is wrong
--- with it, and its values
-unfoldable pub event_words : View → ViewedEvent → List ℕ
-event_words view event =
-    event.read.name
-    ++ (thing_text (event_type (opening_of view event)) (event_id (opening_of view event))
-    ++ (attempt_text event.attempt
-    ++ (after_label (codes ", ") event.duration
-    ++ (after_label (codes ", because ") event.failure
-    ++ (after_label (codes ", ") (mark_words view event) ++ flat_map value_text event.payloads)))))

@@ -3,9 +3,10 @@
 ghost use Rattle.std.specs.Prelude.{◌≡◌, IfOk, option_map};
 ghost use Rattle.wh_run_page.specs.Lanes as lanes;
 
+use crate::causes::{EndingWords, Reason};
 use crate::moments::{event_at, moment_if, moment_or};
 use crate::rows::PlacedThing;
-use crate::words::{AfterLabel, copy_text};
+use crate::words::copy_text;
 use std::alloc::Global;
 use wh_events::{EventKind, OutOfMemory, Text};
 use wh_html::{Kind, Lane, ThingOutcome};
@@ -93,7 +94,8 @@ fn word_of(event: &ViewedEvent) -> &'static str
     }
 }
 
-/// Returns the outcome of a thing in words, with the reason of a failure.
+/// Returns the outcome of a thing in words, with the failure and its causes, and why it was
+/// not tried again.
 fn outcome_words(alloc: Global, ending: Option<&ViewedEvent>) -> Result<Text, OutOfMemory>
     ensures { IfOk result (λ words. words ≡ lanes.outcome_words (option_map (λ e. e.now) ending.entry)) }
 {
@@ -101,8 +103,9 @@ fn outcome_words(alloc: Global, ending: Option<&ViewedEvent>) -> Result<Text, Ou
         return copy_text(alloc, "open");
     };
     let word = word_of(event);
-    let failure = AfterLabel(": ", event.failure.get());
-    Ok(Text::new(format!(in alloc; "{word}{failure}")?))
+    let reason = Reason(": ", event);
+    let ending = EndingWords(event);
+    Ok(Text::new(format!(in alloc; "{word}{reason}{ending}")?))
 }
 
 /// Returns the id of what an event opened; empty if there is no event.

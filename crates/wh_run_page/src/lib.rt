@@ -3,7 +3,9 @@
 //! as they are; they are escaped when the page is written.
 #![tactic(auto)]
 
+mod causes;
 mod choosing;
+mod event_words;
 mod facts;
 mod headings;
 mod lanes;
@@ -13,6 +15,7 @@ mod page;
 mod rows;
 mod said;
 mod tasks;
+mod waits;
 mod words;
 
 pub use page::page_of;

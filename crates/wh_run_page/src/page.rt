@@ -10,6 +10,7 @@ use crate::moments::{event_at, index_at, moment_if, times_of};
 use crate::rows::{firsts_of, placed_things, row_count};
 use crate::said::Said;
 use crate::tasks::tasks_of;
+use crate::waits::waits_of;
 use std::alloc::Global;
 use wh_events::{Items, OutOfMemory};
 use wh_html::Page;
@@ -27,6 +28,7 @@ fn timed_page(
     ensures { IfOk result (λ page. page ≡ pages.timed_page view.now times.now said shown.now) }
 {
     let facts = Items::new(facts_of(alloc, view, times)?);
+    let waits = Items::new(waits_of(alloc, view)?);
     let firsts = firsts_of(alloc, view, shown)?;
     let placed = placed_things(alloc, view, shown, firsts.as_slice())?;
     let lanes = Items::new(lanes_of(alloc, view, times, placed.as_slice())?);
@@ -38,6 +40,7 @@ fn timed_page(
         verdict: said.verdict,
         good: said.good,
         facts,
+        waits,
         difference: said.difference,
         fault,
         lanes,
@@ -62,7 +65,9 @@ fn timed_page(
 /// activation jobs, commands, and what else is recorded. The event of the fault always has a line,
 /// with `Side::Fault`. An event is shown with its number, or with its place if it has no number or
 /// one that does not follow the number before. An event without a time has that of the event
-/// before. The work is proportional to the number of events.
+/// before. The line of an event that tells of a failure has its causes, and their stack traces. If
+/// the run is open, the page says what it waits for. The work is proportional to the number of
+/// events.
 ///
 /// Returns `OutOfMemory` if there is no memory for the page.
 pub fn page_of(alloc: Global, view: &View, said: Said) -> Result<Page, OutOfMemory>

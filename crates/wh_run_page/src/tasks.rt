@@ -4,9 +4,10 @@ ghost use Rattle.std.specs.Prelude.{◌≡◌, ◌+◌, ◌<◌, ◌^◌, ◌++�
 ghost use Rattle.std.specs.List.{list_any};
 ghost use Rattle.wh_run_page.specs.Tasks as tasks;
 
+use crate::causes::traces_of;
+use crate::event_words::event_words;
 use crate::headings::{Sought, first_like, heading};
 use crate::moments::{moment_or, number_of};
-use crate::words::event_words;
 use std::alloc::Global;
 use wh_events::{Items, OutOfMemory};
 use wh_html::{Side, Task, TaskLine, first_items};
@@ -66,10 +67,12 @@ fn line_of(
     ensures { IfOk result (λ line. line ≡ tasks.line_of view.now fault event.now) }
 {
     let text = event_words(alloc, view, event)?;
+    let trace = Items::new(traces_of(alloc, event.details.failures.get())?);
     Ok(TaskLine {
         side: side_at(fault, event),
         event: Some(number_of(event)),
         text,
+        trace,
     })
 }
 

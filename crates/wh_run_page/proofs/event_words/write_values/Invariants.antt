@@ -1,8 +1,8 @@
 use Rattle.std.proofs.Common.{take}
 use Rattle.std.specs.List.{flat_map}
 use Rattle.std.specs.Fmt.{HasWritten, IsPlainFormatter}
-use Rattle.wh_run_page.specs.Words.{value_text}
-use Rattle.wh_run_page.proofs.words.write_values.Given as goal
+use Rattle.wh_run_page.specs.EventWords.{value_text}
+use Rattle.wh_run_page.proofs.event_words.write_values.Given as goal
 
 -- the values so far have been written
 abbrev pub invariant-loop-value : goal.invariant-loop-value
