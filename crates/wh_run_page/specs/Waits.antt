@@ -40,9 +40,9 @@ abbrev pub task_words : View → Option OpenTask → List (List ℕ)
 task_words view None = []
 task_words view (Some task) = task_by view task (event_at view.events (Some task.scheduled))
 
--- what a run waits for, or that it waits for nothing that it started
+-- what a run waits for, or that nothing is open of what it may wait for
 abbrev pub or_nothing : List (List ℕ) → List (List ℕ)
-or_nothing [] = codes "nothing that it started is open" ∷ []
+or_nothing [] = codes "no activity, timer, child workflow, request or workflow task is open" ∷ []
 or_nothing (wait ∷ waits) = wait ∷ waits
 
 -- what a run that is open waits for: the first 40 things that have not ended, how many more there are, and the workflow

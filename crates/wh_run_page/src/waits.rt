@@ -86,12 +86,15 @@ fn push_task(
     Ok(())
 }
 
-/// Adds that a run waits for nothing that it started, if nothing else is said.
+/// Adds that nothing is open of what a run may wait for, if nothing else is said.
 fn push_nothing(alloc: Global, all: &mut Vec<Text>) -> Result<(), OutOfMemory>
     ensures { OnOk result (all.new.items ≡ waits.or_nothing all.old.items) }
 {
     if all.is_empty() {
-        all.push(copy_text(alloc, "nothing that it started is open")?)?;
+        all.push(copy_text(
+            alloc,
+            "no activity, timer, child workflow, request or workflow task is open",
+        )?)?;
     }
     Ok(())
 }
