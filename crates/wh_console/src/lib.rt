@@ -1,6 +1,7 @@
 //! The console of a program: what it writes on its standard output, and what it reports on its
 //! standard error under the name by which it was called. And the files, the folders and the standard
-//! input that it reads, and the files that it replaces.
+//! input that it reads, the files that it replaces, and what its reports are asked for: the format,
+//! which tasks of a history, the options of a replay.
 #![tactic(auto)]
 
 mod console;

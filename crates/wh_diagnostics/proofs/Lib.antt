@@ -10,3 +10,4 @@ pub mod Counted
 pub mod Telling
 pub mod Answering
 pub mod Reporting
+pub mod Unreported

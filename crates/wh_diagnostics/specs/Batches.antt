@@ -1,7 +1,10 @@
--- What is reported of progress between batches of files.
-use Rattle.std.specs.Prelude.{◌≡◌, ◌≤◌, ◌⊎◌, ℕ, zero, suc, ◌-◌, ◌*◌, ◌/◌, max, List, [], ◌++◌, take, length, Bool}
-use Rattle.wh_console.specs.Consoles.{ConsoleView, Reported}
+-- What is reported of progress between batches of files, and what is left where there is no report of them.
+use Rattle.std.specs.Prelude.{◌≡◌, ◌≢◌, ◌≤◌, ◌⊎◌, ℕ, zero, suc, ◌-◌, ◌*◌, ◌/◌, max, List, [], ◌++◌, take, length, Bool}
+use Rattle.wh_console.specs.Consoles.{ConsoleView, IsQuiet, Reported}
+use Rattle.wh_diagnostics.specs.Failures.{IsReportFailure}
 use Rattle.wh_diagnostics.specs.ProgressLines.{end_text, line_text, progress_of}
+use Rattle.wh_diagnostics.specs.declared.failures.Failure.{Failure}
+use Rattle.wh_diagnostics.specs.declared.failures.Failure.TheVariants.{Output}
 use Rattle.wh_diagnostics.specs.declared.progress_modes.ProgressMode.{ProgressMode}
 use Rattle.wh_diagnostics.specs.declared.progress_modes.ProgressMode.TheVariants.{Hidden}
 
@@ -51,3 +54,15 @@ pub record HasStoppedWhole {T A : Type 0} (Are : List T → A → Type 0) (fault
   pub between : ConsoleView
   pub stopped : HasStopped Are faulty mode inputs old between
   pub erased : Reported between new (end_text mode (reported_batches mode (length inputs)))
+
+-- there is no report of what was made of inputs: progress was reported after some batches of them, perhaps none, what
+-- erases a line of it was written, and nothing more was reported; if the output failed, it was made of all inputs
+-- before, and all of progress was reported; otherwise nothing was written either
+pub record LacksReport {T A : Type 0} (Are : List T → A → Type 0) (faulty : A → List Bool) (mode : ProgressMode)
+    (inputs : List T) (old new : ConsoleView) (failure : Failure) : Type 0 where
+  pub between : ConsoleView
+  pub stopped : HasStoppedWhole Are faulty mode inputs old between
+  pub whole : failure ≡ Output → (made : A) × Are inputs made × Reported old between (reports_of mode (faulty made))
+  pub quiet : IsQuiet between new
+  pub unwritten : failure ≢ Output → new ≡ between
+  pub why : IsReportFailure failure

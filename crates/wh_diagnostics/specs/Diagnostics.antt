@@ -4,7 +4,6 @@ use Rattle.std.specs.List.{flat_map}
 use Rattle.std.specs.declared.alloc.Global.{Global}
 use Rattle.wh_console.specs.Reasons.{reason_words}
 use Rattle.wh_console.specs.declared.files.Reason.{Reason}
-use Rattle.wh_json.specs.declared.fault.ReadFault.{ReadFault}
 use Rattle.wh_tester.specs.Report.{fault_text, shown}
 use Rattle.wh_diagnostics.specs.declared.diagnostics.Diagnostic.{Diagnostic}
 use Rattle.wh_diagnostics.specs.declared.diagnostics.Diagnostic.TheVariants.{NoFiles, BadNames, BadJson, Failed}
@@ -40,19 +39,9 @@ abbrev pub reason_line : List ℕ → Option (String Global) → Reason → List
 reason_line path None reason name = path_line path (reason_words reason) name
 reason_line path (Some entry) reason name = entry_line path (string_bytes entry) (reason_words reason) name
 
--- `<name>: <file>: unreadable, <fault>`
-abbrev pub unviewed_line : List ℕ → ReadFault → List ℕ → List ℕ
-unviewed_line file fault name =
-    shown name ++ (codes ": " ++ (shown file ++ (codes ": unreadable, " ++ (fault_text fault ++ codes "\n"))))
-
--- `<name>: <file>: not UTF-8 text`
-abbrev pub not_text_line : (file name : List ℕ) → List ℕ
-not_text_line file name = shown name ++ (codes ": " ++ (shown file ++ codes ": not UTF-8 text\n"))
-
--- `<name>: <file>: <why it gives no policies>`
-abbrev pub bad_policies_line : (file why name : List ℕ) → List ℕ
-bad_policies_line file why name =
-    shown name ++ (codes ": " ++ (shown file ++ (codes ": " ++ (why ++ codes "\n"))))
+-- `<name>: <file>: <why>`
+abbrev pub file_line : (file why name : List ℕ) → List ℕ
+file_line file why name = shown name ++ (codes ": " ++ (shown file ++ (codes ": " ++ (why ++ codes "\n"))))
 
 -- why there is no full report: the text on an invalid command line as it is, or a line under the program's name
 abbrev pub failed_text : Failure → List ℕ → List ℕ
@@ -62,9 +51,9 @@ failed_text FewSlots name = named_line (codes "slots must be at least workers") 
 failed_text BadInput name = named_line (codes "the arguments of a query must be JSON") name
 failed_text (Unreadable dir entry reason) name = reason_line dir entry reason name
 failed_text (NotJson file detail) name = detail_line file detail name
-failed_text (NotViewed file fault) name = unviewed_line file fault name
-failed_text (NotText file) name = not_text_line file name
-failed_text (BadPolicies file why) name = bad_policies_line file why name
+failed_text (NotViewed file fault) name = file_line file (codes "unreadable, " ++ fault_text fault) name
+failed_text (NotText file) name = file_line file (codes "not UTF-8 text") name
+failed_text (BadPolicies file why) name = file_line file why name
 failed_text Output name = named_line (codes "cannot write") name
 failed_text OutOfMemory name = named_line (codes "out of memory") name
 

@@ -2,7 +2,8 @@
 
 ghost use Rattle.std.specs.Prelude.{◌≡◌, ◌++◌, OnOk, codes};
 ghost use Rattle.std.specs.Io.KnownBytes.{Appends};
-ghost use Rattle.wh_diagnostics.specs.Diagnostics.{bad_name_line, bad_name_lines, bad_policies_line, diagnostic_text, entry_line, failed_text, named_line, not_text_line, path_line, reason_line, unviewed_line};
+ghost use Rattle.wh_tester.specs.Report.{fault_text};
+ghost use Rattle.wh_diagnostics.specs.Diagnostics.{bad_name_line, bad_name_lines, diagnostic_text, entry_line, failed_text, file_line, named_line, path_line, reason_line};
 
 use crate::failures::Failure;
 use std::io;
@@ -67,19 +68,10 @@ fn write_no_files<E: Write>(dir: &str, name: &str, writer: &mut E) -> io::Result
     writeln!(writer, "{name}: no .json file in {dir}")
 }
 
-/// Writes that a file is not UTF-8 text.
-fn write_not_text<E: Write>(file: &str, name: &str, writer: &mut E) -> io::Result<()>
-    ensures { OnOk result (Appends (E.contents writer.old) (E.contents writer.new) (not_text_line file.now name.now)) }
-{
-    let file = Shown(file);
-    let name = Shown(name);
-    writeln!(writer, "{name}: {file}: not UTF-8 text")
-}
-
-/// Writes why a policy file is refused.
-fn write_policies<E: Write>(file: &str, why: &str, name: &str, writer: &mut E) -> io::Result<()>
+/// Writes a line about a file, under the program's name.
+fn write_file_line<E: Write>(file: &str, why: &str, name: &str, writer: &mut E) -> io::Result<()>
     ensures { OnOk result (Appends (E.contents writer.old) (E.contents writer.new)
-        (bad_policies_line file.now why.now name.now)) }
+        (file_line file.now why.now name.now)) }
 {
     let file = Shown(file);
     let name = Shown(name);
@@ -167,7 +159,7 @@ fn write_not_viewed<E: Write>(
     writer: &mut E,
 ) -> io::Result<()>
     ensures { OnOk result (Appends (E.contents writer.old) (E.contents writer.new)
-        (unviewed_line file.now fault.now name.now)) }
+        (file_line file.now (codes "unreadable, " ++ fault_text fault.now) name.now)) }
 {
     let file = Shown(file);
     let fault = FaultText(fault);
@@ -189,8 +181,8 @@ fn write_failed<E: Write>(failure: &Failure, name: &str, writer: &mut E) -> io::
         }
         Failure::NotJson { file, detail } => write_detail(file.get(), detail, name, writer),
         Failure::NotViewed { file, fault } => write_not_viewed(file.get(), fault, name, writer),
-        Failure::NotText { file } => write_not_text(file.get(), name, writer),
-        Failure::BadPolicies { file, why } => write_policies(file.get(), why.get(), name, writer),
+        Failure::NotText { file } => write_file_line(file.get(), "not UTF-8 text", name, writer),
+        Failure::BadPolicies { file, why } => write_file_line(file.get(), why.get(), name, writer),
         Failure::Output => write_line("cannot write", name, writer),
         Failure::OutOfMemory => write_line("out of memory", name, writer),
     }

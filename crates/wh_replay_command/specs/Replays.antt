@@ -1,20 +1,18 @@
 -- What replay of files writes and reports.
-use Rattle.std.specs.Prelude.{◌≡◌, ◌≢◌, ◌⊎◌, ℕ, List, ◌∷◌, Bool, Option}
+use Rattle.std.specs.Prelude.{◌≡◌, ◌⊎◌, ℕ, List, ◌∷◌, Bool, Option}
 use Rattle.std.specs.List.{list_any}
 use Rattle.wh_console.specs.declared.replay_options.ReplayOptions.{ReplayOptions}
-use Rattle.wh_console.specs.Consoles.{ConsoleView, IsQuiet, Printed, Reported}
+use Rattle.wh_console.specs.Consoles.{ConsoleView, Printed, Reported}
 use Rattle.wh_report.specs.Notes.{records_lines}
-use Rattle.wh_diagnostics.specs.Failures.{IsReportFailure}
 use Rattle.wh_diagnostics.specs.Printing.{status_with}
 use Rattle.wh_diagnostics.specs.declared.failures.Failure.{Failure}
-use Rattle.wh_diagnostics.specs.declared.failures.Failure.TheVariants.{Output}
 use Rattle.wh_console.specs.Inputs.{IsReadFrom}
 use Rattle.wh_console.specs.declared.files.Input.{Input}
 use Rattle.wh_replay_command.specs.Batches.{faulty_of}
 use Rattle.wh_diagnostics.specs.Listings.{AfterListing, AreListed, AreUnlisted, is_by_path, lacks_files}
 use Rattle.wh_diagnostics.specs.Readings.{Gives, IsReadAs}
 use Rattle.wh_diagnostics.specs.KnownTypes.{known_types_text, lacks_code}
-use Rattle.wh_diagnostics.specs.Batches.{HasStoppedWhole, reports_of}
+use Rattle.wh_diagnostics.specs.Batches.{LacksReport, reports_of}
 use Rattle.wh_diagnostics.specs.ProgressModes.{mode_by}
 use Rattle.wh_diagnostics.specs.declared.progress_modes.ProgressMode.{ProgressMode}
 use Rattle.wh_report.specs.Records.{AreRecordsOf}
@@ -44,19 +42,6 @@ pub record HasReplayed {S : Type 0} (gives : Gives) (options : ReplayOptions) (p
   pub reported : HasReported records options lacks between ended status
   pub known : Reported ended new (known_types_text types (list_any (λ own. lacks_code own.detail) records))
 
--- there is no report: progress was reported after some batches of what was replayed, what erases a line of it was
--- written, and nothing more was reported; if the output failed, all inputs were read as files and replayed before, and
--- all of progress was reported; otherwise nothing was written either
-pub record HasNotReplayed {S : Type 0} (gives : Gives) (options : ReplayOptions) (program : Program S)
-    (inputs : List Input) (mode : ProgressMode) (old new : ConsoleView) (failure : Failure) : Type 0 where
-  pub between : ConsoleView
-  pub stopped : HasStoppedWhole (AreRecordsOf options program (IsReadAs gives)) faulty_of mode inputs old between
-  pub whole : failure ≡ Output → (records : List Record) × AreRecordsOf options program (IsReadAs gives) inputs records
-      × Reported old between (reports_of mode (faulty_of records))
-  pub quiet : IsQuiet between new
-  pub unwritten : failure ≢ Output → new ≡ between
-  pub why : IsReportFailure failure
-
 -- what paths name was replayed, and progress was reported as some link of the standard error and the option for it have
 -- it
 abbrev pub HasReplayedPaths : {S : Type 0} → Program S → (types first : List ℕ) → (more : List (List ℕ))
@@ -74,5 +59,6 @@ HasNotReplayedPaths program first more options old new failure =
     AreUnlisted (is_by_path more) (first ∷ more) old new failure
     ⊎ AfterListing (AreListed (is_by_path more) (first ∷ more)) (λ inputs left_out old new failure.
     (link : Option (List ℕ))
-    × HasNotReplayed IsReadFrom options program inputs (mode_by link options.progress) old new failure)
+    × LacksReport (AreRecordsOf options program (IsReadAs IsReadFrom)) faulty_of (mode_by link options.progress) inputs
+    old new failure)
     old new failure

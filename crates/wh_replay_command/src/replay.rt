@@ -3,9 +3,13 @@
 ghost use Rattle.std.specs.Prelude.{◌≡◌, IfErr, IfOk, OnOk};
 ghost use Rattle.std.specs.List.{list_any};
 ghost use Rattle.wh_console.specs.Consoles.{IsQuiet, Printed, Reported};
-ghost use Rattle.wh_replay_command.specs.Replays.{HasNotReplayed, HasNotReplayedPaths, HasReplayed, HasReplayedPaths, HasReported};
+ghost use Rattle.wh_replay_command.specs.Batches.{faulty_of};
+ghost use Rattle.wh_replay_command.specs.Replays.{HasNotReplayedPaths, HasReplayed, HasReplayedPaths, HasReported};
+ghost use Rattle.wh_diagnostics.specs.Batches.{LacksReport};
 ghost use Rattle.wh_diagnostics.specs.KnownTypes.{lacks_code};
+ghost use Rattle.wh_diagnostics.specs.Readings.{IsReadAs};
 ghost use Rattle.wh_report.specs.Notes.{records_lines};
+ghost use Rattle.wh_report.specs.Records.{AreRecordsOf};
 ghost use Rattle.wh_report.specs.Reports.{records_status, report_of};
 
 use crate::batches::check_in_batches;
@@ -84,8 +88,8 @@ fn replay<W: Workflow + Send, R: InputReader + AllocGlobal + Threads + Sync, O: 
 ) -> Result<u8, Failure>
     ensures replayed { IfOk result
         (HasReplayed R.gives options W.program types.now inputs.items mode lacks console.old console.new) }
-    ensures stopped { IfErr result
-        (HasNotReplayed R.gives options W.program inputs.items mode console.old console.new) }
+    ensures stopped { IfErr result (LacksReport (AreRecordsOf options W.program (IsReadAs R.gives)) faulty_of
+        mode inputs.items console.old console.new) }
 {
     let records = check_in_batches::<W, R, O, E>(rt, inputs, options, mode, console)?;
     let lacking = lack_code(records.as_slice());

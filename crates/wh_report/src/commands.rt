@@ -16,9 +16,11 @@ use wh_console::{InputFault, ReplayOptions};
 use wh_file_faults::CommandFault;
 use wh_workflow::Workflow;
 
-/// Replays files, given by name and bytes, and writes the report that options ask for. The status
-/// is 1 if a file is not good, and else 3 if values of one differ, and 0 if none do. Nothing is
-/// written if the answer is `OutOfMemory`.
+/// Replays files, given by name and bytes, and writes the report that options ask for: in their
+/// format, and with the values that differ if values are strict. `require_files` and `progress`
+/// change nothing here: who lists the files obeys them, as `replay_paths` of `wh_replay_command` does.
+/// The status is 1 if a file is not good, and else 3 if values of one differ, and 0 if none do.
+/// Nothing is written if the answer is `OutOfMemory`.
 pub fn replay_command<W: Workflow + Send, R: Threads + Sync, O: Write>(
     rt: &R,
     alloc: Global,

@@ -196,8 +196,10 @@ pub fn write_report<O: Write>(records: &[Record], format: Format, writer: &mut O
     }
 }
 
-/// Writes the report of records that options ask for, and gives its status: 1 if a file is not
-/// good, and else 3 if values of one differ, and 0 if none do.
+/// Writes the report of records in the format that options ask for, and gives its status: 1 if a
+/// file is not good, and else 3 if values of one differ, and 0 if none do. The other options change
+/// nothing here: `check_all` obeys `strict_values` when it makes the records, and `require_files` and
+/// `progress` are for who lists the files, as `replay_paths` of `wh_replay_command`.
 pub fn report<O: Write>(
     records: &[Record],
     options: ReplayOptions,
