@@ -60,14 +60,19 @@ open_at view thing (Some event) = open_object view thing event
 abbrev pub thing_object : View → ViewedThing → List ℕ
 thing_object view thing = if is_some thing.ended then [] else open_at view thing (slice_get view.events thing.opened)
 
+-- of the last attempt of a workflow task, that a worker has started it, or that it failed or timed out
+abbrev pub attempt_members : View → OpenTask → List ℕ
+attempt_members view task =
+    place_member (codes "started") (place_at view task.started)
+    ++ place_member (codes "failed") (place_at view task.failed)
+
 -- the object of a workflow task for which a run waits, and which the event scheduled
 abbrev pub task_at : View → OpenTask → Option ViewedEvent → List ℕ
 task_at view task None = []
 task_at view task (Some event) =
     codes "{\"waits\":\"workflowTask\",\"opened\":" ++ (decimal event.place
-    ++ (place_member (codes "started") (place_at view task.started)
-    ++ (place_member (codes "failed") (place_at view task.failed)
-    ++ (text_member (codes "since") event.moment ++ codes "}\n"))))
+    ++ (attempt_members view task
+    ++ (text_member (codes "since") event.moment ++ codes "}\n")))
 
 abbrev pub task_object : View → OpenTask → List ℕ
 task_object view task = task_at view task (slice_get view.events task.scheduled)

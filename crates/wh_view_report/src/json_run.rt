@@ -119,6 +119,21 @@ fn write_things<O: Write>(view: &View, writer: &mut O) -> io::Result<()>
     Ok(())
 }
 
+/// The members of a workflow task that say of its last attempt that a worker has started it, or that it failed or timed
+/// out.
+#[derive(Drop)]
+struct AttemptMembers<'a>(&'a View, OpenTask);
+
+impl fmt::Display for AttemptMembers<'_> {
+    ghost output = { λ a. Some (json.attempt_members a.0.now a.1) };
+
+    fn fmt<W: fmt::Write>(&self, f: &mut fmt::Formatter<W>) -> fmt::Result {
+        let started = PlaceMember("started", place_at(self.0, self.1.started));
+        let failed = PlaceMember("failed", place_at(self.0, self.1.failed));
+        write!(f, "{started}{failed}")
+    }
+}
+
 /// Writes the object of a workflow task for which a run waits.
 fn write_open_task<O: Write>(view: &View, task: OpenTask, writer: &mut O) -> io::Result<()>
     ensures { OnOk result
@@ -128,12 +143,11 @@ fn write_open_task<O: Write>(view: &View, task: OpenTask, writer: &mut O) -> io:
         return Ok(());
     };
     let place = event.place;
-    let started = PlaceMember("started", place_at(view, task.started));
-    let failed = PlaceMember("failed", place_at(view, task.failed));
+    let attempts = AttemptMembers(view, task);
     let since = TextMember("since", event.moment.get());
     write!(
         writer,
-        "{{\"waits\":\"workflowTask\",\"opened\":{place}{started}{failed}{since}}}\n"
+        "{{\"waits\":\"workflowTask\",\"opened\":{place}{attempts}{since}}}\n"
     )
 }
 
