@@ -605,6 +605,15 @@ def judge_way(page):
     return wrong
 
 
+def judge_state(program):
+    """What is wrong with the state of a closed run on its page, beside what the query `state` gives."""
+    told = json.loads(program.run("query", RUN, "state").stdout.decode().splitlines()[1])
+    state = told["state"] if isinstance(told, dict) else told
+    html = program.run("explain", "--html", RUN).stdout.decode()
+    wanted = f"it stands in the state <strong>{state}</strong>; the run is closed."
+    return [] if wanted in html else [f"the page does not say {wanted!r}"]
+
+
 def drawing_of(html, heading):
     """A picture of a page by itself: with the styles that it takes from its page, and the ground on which it stands."""
     style = re.search(r"<style>\n(.*?)</style>", html, re.DOTALL)[1]
@@ -797,6 +806,7 @@ def trials(program, room, pages, has_sizes):
             if has_sizes:
                 print(f"{key}: {len(text.encode()):,} bytes of history, {len(page.html.encode()):,} of page, {took:.2f} s")
     yield from judge_promises(program, room)
+    yield "closed run of a table", judge_state(program)
     with (room / "go.json").open() as file:
         made = subprocess.run([program.path, "explain", "--html", "--recorded", "-"], stdin=file, stdout=subprocess.PIPE, timeout=300)
     title = Page(made.stdout.decode()).parts["title"]

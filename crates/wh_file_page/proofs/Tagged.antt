@@ -1,19 +1,20 @@
 -- The tags of a page are those of the page without its texts and the words of its table.
-use Rattle.std.proofs.Common.{Bool, true, false, Option, Some, None}
+use Rattle.std.proofs.Common.{◌≡◌, Bool, true, false, Option, Some, None, refl}
+use Rattle.std.specs.List.{list_all}
 use Rattle.std.specs.Option.{option_map}
-use Rattle.wh_html.proofs.Alike.{Alike, last, both, none, mark, text, num}
+use Rattle.wh_html.proofs.Alike.{Alike, is_inner, last, both, none, mark, word, text, num}
 use Rattle.wh_page.proofs.Tagged as pages
 use Rattle.wh_table_picture.proofs.Tagged.{marked-alike}
 use Rattle.wh_file_page.specs.declared.run_table.RunTable.{RunTable}
-use Rattle.wh_file_page.specs.RunTables.{standing_html, section_html, table_html, without_table_words}
+use Rattle.wh_file_page.specs.RunTables.{closed_words, standing_html, section_html, table_html, without_table_words}
 use Rattle.wh_file_page.specs.Laws.{TextsAreNoTags}
 
+closed-inner : (closed : Bool) → list_all is_inner (closed_words closed) ≡ true
+closed-inner true = refl
+closed-inner false = refl
+
 standing-alike : (table : RunTable) → Alike false false (standing_html table) (standing_html (without_table_words table))
-standing-alike table = by table.closed
-  where
-    by : (closed : Bool) → Alike false false (standing_html (record table { closed = closed })) (standing_html (without_table_words (record table { closed = closed })))
-    by true = last _
-    by false = mark _ (text _ _ _ (last _))
+standing-alike table = mark _ (text _ _ _ (mark _ (word _ (closed-inner table.closed) (last _))))
 
 section-alike : (table : RunTable) → Alike false false (section_html table) (section_html (without_table_words table))
 section-alike table =

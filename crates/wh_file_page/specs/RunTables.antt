@@ -2,7 +2,7 @@
 use Rattle.std.specs.Prelude.{◌≡◌, ◌↔◌, ℕ, IsSome, Bool, true, false, if◌then◌else◌, List, [], ◌∷◌, length, map, codes, Option, Some, None}
 use Rattle.std.specs.Option.{option_map}
 use Rattle.wh_events.specs.declared.event.Payload.{Payload}
-use Rattle.wh_html.specs.Html.{Html, nothing, markup, hole, ◌⊕◌, number}
+use Rattle.wh_html.specs.Html.{Html, nothing, markup, plain, hole, ◌⊕◌, number}
 use Rattle.wh_file_page.specs.declared.way.Way.{Way}
 use Rattle.wh_file_page.specs.Ways.{IsWayOf}
 use Rattle.wh_file_page.specs.Brought.{BringsTable}
@@ -48,12 +48,19 @@ abbrev pub IsTableOf : (only_recorded : Bool) → (bytes : List ℕ) → Option 
 IsTableOf true bytes table = table ≡ None
 IsTableOf false bytes table = IsTableIn bytes table
 
--- where a run stands after its last replayed task, whatever its history has after that
+-- what is said of a run after its state, if it is closed
+abbrev pub closed_words : Bool → List ℕ
+closed_words closed = if closed then codes "; the run is closed" else []
+
+-- where a run stands after its last replayed task, whatever its history has after that: in the state that it keeps also
+-- when it is closed
 abbrev pub standing_html : RunTable → Html
 standing_html table =
-    if table.closed then markup (codes "After its last replayed task it is closed.")
-    else markup (codes "After its last replayed task it stands in the state <strong>") ⊕ hole 100 table.state
-    ⊕ markup (codes "</strong>.")
+    markup (codes "After its last replayed task it stands in the state <strong>")
+    ⊕ hole 100 table.state
+    ⊕ markup (codes "</strong>")
+    ⊕ plain (closed_words table.closed)
+    ⊕ markup (codes ".")
 
 -- the section of the table of a run
 abbrev pub section_html : RunTable → Html

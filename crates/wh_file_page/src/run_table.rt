@@ -5,7 +5,7 @@ ghost use Rattle.wh_explain.specs.Reading.{IsReadOf};
 ghost use Rattle.wh_html.specs.Html.{bytes};
 ghost use Rattle.wh_file_page.specs.Readings.{IsReadAs};
 ghost use Rattle.wh_file_page.specs.RunTables.{IsTableIn, IsTableOf, lines_of, marks_of, run_table};
-ghost use Rattle.wh_file_page.specs.RunTables.{section_html, standing_html, table_html};
+ghost use Rattle.wh_file_page.specs.RunTables.{closed_words, section_html, standing_html, table_html};
 
 use crate::following::way_of;
 use crate::way::Way;
@@ -108,6 +108,13 @@ pub(crate) fn table_as(
     }
 }
 
+/// Returns what is said of a run after its state, if it is closed.
+fn closed_words(closed: bool) -> &'static str
+    ensures { result.now ≡ closed_words closed }
+{
+    if closed { "; the run is closed" } else { "" }
+}
+
 /// Where a run stands after its last replayed task.
 #[derive(Drop)]
 struct RunStanding<'a>(&'a RunTable);
@@ -116,16 +123,14 @@ impl fmt::Display for RunStanding<'_> {
     ghost output = { λ own. Some (bytes (standing_html own.0.now)) };
 
     fn fmt<W: fmt::Write>(&self, f: &mut fmt::Formatter<W>) -> fmt::Result {
-        if self.0.closed {
-            return write!(f, "After its last replayed task it is closed.");
-        }
         let state = Escaped {
             text: &self.0.state,
             most: 100,
         };
+        let closed = closed_words(self.0.closed);
         write!(
             f,
-            "After its last replayed task it stands in the state <strong>{state}</strong>."
+            "After its last replayed task it stands in the state <strong>{state}</strong>{closed}."
         )
     }
 }
