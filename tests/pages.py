@@ -264,9 +264,11 @@ class Page(HTMLParser):
             wrong.append(f"the page says {facts['Status']!r}, the text {status!r}")
         if (len(given) == 2) != bool(event) or facts.get("Goes on in run") != following:
             wrong.append(f"the page goes on in {facts.get('Goes on in run')}, the text {status!r}")
-        waits = rest[-1].split("; waits for ")[1:] if word == "Running" else []
-        if [one for one in self.waits if "nothing that" not in one] != waits or bool(self.waits) != (word == "Running"):
-            wrong.append(f"the page waits for {self.waits}, the text {rest[-1:]}")
+        # Below that line stand the sums by type.
+        last = next((line for line in reversed(rest) if line.startswith("running; ")), "")
+        waits = last.removeprefix("running; ").replace("; waits for ", "\n").removeprefix("waits for ").split("\n") if last else []
+        if self.waits != waits or bool(last) != (word == "Running"):
+            wrong.append(f"the page waits for {self.waits}, the text {last!r}")
         return wrong
 
     def judge_verdict(self, told, name):
