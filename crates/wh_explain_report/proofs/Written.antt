@@ -1,12 +1,14 @@
 -- Texts are written item by item.
 use Rattle.std.proofs.Common.{◌≡◌, ◌≢◌, ◌∙◌, ℕ, ◌+◌, ◌-◌, ◌<◌, ◌≤◌, Bool, true, false, cond, zero, suc, List, [], ◌∷◌, ◌++◌, length, get_or, drop, add-one, refl, sym, ap, subst, append_assoc, append-nil, drop_of_length-le, arith, ne_eqb}
 use Rattle.std.proofs.Math.Seq.{drop-cons}
+use Rattle.std.proofs.KnownBytes.{Appends-trans}
+use Rattle.std.specs.Io.KnownBytes.{Appends}
 use Rattle.std.specs.List.{flat_map, filter}
+use Rattle.std.specs.Prelude.{Option}
 use Rattle.wh_workflow.specs.ActivationScripts.{Step}
 use Rattle.wh_explain.specs.Numbers.{left_after, number_of}
 use Rattle.wh_explained_tasks.specs.declared.ExplainedTask.{ExplainedTask}
-use Rattle.wh_explain_report.specs.Texts.{step_text, steps_text, task_text}
-use Rattle.wh_explain_report.specs.Json.{step_objects, steps_objects}
+use Rattle.wh_explain_report.specs.Texts.{steps_as, task_text}
 use Rattle.wh_explain_report.specs.Alike.{alike_tasks}
 use Rattle.wh_explain_report.specs.Sharing.{shares}
 use Rattle.wh_explain_report.specs.Selections.{sharing}
@@ -23,25 +25,36 @@ moved done text rest whole front is all = append_assoc done text rest ∙ (ap (�
 
 -- ---- steps
 
-pub step_written : (steps : List Step) (i : ℕ) (step : Step) (left : List ℕ) (done whole : List ℕ) → i < length steps → step ≡ get_or steps i step
-    → done ++ steps_text left (drop i steps) ≡ whole → (done ++ step_text (number_of step.job left) step) ++ steps_text (left_after step.job left) (drop (i + 1) steps) ≡ whole
-unfolding steps_text
-step_written steps i step left done whole below is all =
-    moved done (step_text (number_of step.job left) step) (steps_text (left_after step.job left) (drop (i + 1) steps)) whole (steps_text left (drop i steps)) (ap (steps_text left) (item_at steps i step below is)) all
+-- the steps before a place are written: with what is to be written of the rest it is the whole
+abbrev pub AreWritten : (one : Option ℕ → Step → List ℕ) (steps : List Step) (i : ℕ) (left whole : List ℕ) (a b : Option (List ℕ)) → Type 0
+AreWritten one steps i left whole a b = (done : List ℕ) × Appends a b done × (done ++ steps_as one left (drop i steps) ≡ whole)
 
-pub steps_written : (steps : List Step) (i : ℕ) (left done whole : List ℕ) → length steps ≤ i → done ++ steps_text left (drop i steps) ≡ whole → done ≡ whole
-unfolding steps_text
-steps_written steps i left done whole past all = sym (append-nil done) ∙ (ap (λ rest. done ++ steps_text left rest) (sym (drop_of_length-le steps past)) ∙ all)
+-- one step more is written
+pub step_written : (one : Option ℕ → Step → List ℕ) (steps : List Step) (i : ℕ) (step : Step) (left after : List ℕ) (number : Option ℕ) (whole : List ℕ) (a b c : Option (List ℕ))
+    → i < length steps → step ≡ get_or steps i step
+    → number ≡ number_of step.job left → after ≡ left_after step.job left
+    → Appends b c (one number step)
+    → AreWritten one steps i left whole a b
+    → AreWritten one steps (i + 1) after whole a c
+unfolding steps_as
+step_written one steps i step left after number whole a b c below is from later own so_far =
+    let done = so_far.0 in
+    let text = one (number_of step.job left) step in
+    let rest = steps_as one (left_after step.job left) (drop (i + 1) steps) in
+    let written = subst (λ n. Appends b c (one n step)) from own in
+    let all = moved done text rest whole (steps_as one left (drop i steps)) (ap (steps_as one left) (item_at steps i step below is)) so_far.2 in (
+      done ++ text,
+      Appends-trans a b c done text so_far.1 written,
+      subst (λ l. (done ++ text) ++ steps_as one l (drop (i + 1) steps) ≡ whole) (sym later) all,
+    )
 
-pub step_shown : (steps : List Step) (i : ℕ) (step : Step) (left : List ℕ) (done whole : List ℕ) → i < length steps → step ≡ get_or steps i step
-    → done ++ steps_objects left (drop i steps) ≡ whole → (done ++ step_objects (number_of step.job left) step) ++ steps_objects (left_after step.job left) (drop (i + 1) steps) ≡ whole
-unfolding steps_objects
-step_shown steps i step left done whole below is all =
-    moved done (step_objects (number_of step.job left) step) (steps_objects (left_after step.job left) (drop (i + 1) steps)) whole (steps_objects left (drop i steps)) (ap (steps_objects left) (item_at steps i step below is)) all
-
-pub steps_shown : (steps : List Step) (i : ℕ) (left done whole : List ℕ) → length steps ≤ i → done ++ steps_objects left (drop i steps) ≡ whole → done ≡ whole
-unfolding steps_objects
-steps_shown steps i left done whole past all = sym (append-nil done) ∙ (ap (λ rest. done ++ steps_objects left rest) (sym (drop_of_length-le steps past)) ∙ all)
+-- and all are in the end
+pub steps_written : (one : Option ℕ → Step → List ℕ) (steps : List Step) (i : ℕ) (left whole : List ℕ) (a b : Option (List ℕ))
+    → length steps ≤ i → AreWritten one steps i left whole a b → Appends a b whole
+unfolding steps_as
+steps_written one steps i left whole a b past so_far =
+    let same : so_far.0 ≡ whole = sym (append-nil so_far.0) ∙ (ap (λ rest. so_far.0 ++ steps_as one left rest) (sym (drop_of_length-le steps past)) ∙ so_far.2) in
+    subst (Appends a b) same so_far.1
 
 -- ---- tasks that share things with the task that has a fault
 

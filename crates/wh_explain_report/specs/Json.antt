@@ -12,13 +12,12 @@ use Rattle.wh_explained_tasks.specs.declared.Ending.TheVariants.{Refused, Live, 
 use Rattle.wh_explained_tasks.specs.declared.ExplainedTask.{ExplainedTask}
 use Rattle.wh_explain.specs.declared.explanation.Explanation.{Explanation}
 use Rattle.wh_tester.specs.declared.line.Line.{Line}
-use Rattle.wh_explain.specs.Numbers.{left_after, number_of}
 use Rattle.wh_explain.specs.Pairings.{differs}
 use Rattle.wh_phrases.specs.Json.{command_json, job_json, sends_member, pairing_members, difference_members}
 use Rattle.wh_phrases.specs.Json.{json_line_with}
 use Rattle.wh_console.specs.declared.selection.Selection.{Selection}
 use Rattle.wh_explain_report.specs.Selections.{selected_or_all}
-use Rattle.wh_explain_report.specs.Texts.{last_command}
+use Rattle.wh_explain_report.specs.Texts.{last_command, steps_as}
 
 -- `{"gives":COMMAND}`
 abbrev pub gives_object : Command → List ℕ
@@ -36,12 +35,6 @@ told_object number job = codes "{\"told\":" ++ (job_json job ++ (number_member n
 -- the object of a job, and an object for each command that was given at the job
 abbrev pub step_objects : Option ℕ → Step → List ℕ
 step_objects number step = told_object number step.job ++ flat_map gives_object step.commands
-
--- the objects of steps, whose jobs come from the events of these numbers
-unfoldable pub steps_objects : List ℕ → List Step → List ℕ
-steps_objects left [] = []
-steps_objects left (step ∷ steps) =
-    step_objects (number_of step.job left) step ++ steps_objects (left_after step.job left) steps
 
 -- `{"refuses":COMMAND}`
 abbrev pub refuses_object : Option Command → List ℕ
@@ -68,7 +61,7 @@ ending_objects steps (Recorded pairings) = flat_map pairing_object pairings
 abbrev pub task_objects : ExplainedTask → List ℕ
 task_objects task =
     (codes "{\"task\":" ++ (decimal task.at ++ codes "}\n"))
-    ++ (steps_objects task.given task.steps ++ ending_objects task.steps task.ending)
+    ++ (steps_as step_objects task.given task.steps ++ ending_objects task.steps task.ending)
 
 -- `{"unknownWorkflow":"NAME"}`, if the workflow type is not registered
 abbrev pub unknown_object : Option (List ℕ) → List ℕ

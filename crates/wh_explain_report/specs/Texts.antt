@@ -33,11 +33,11 @@ told_line number job = codes "  told " ++ (phrase_text (job_phrase job) ++ (numb
 abbrev pub step_text : Option ℕ → Step → List ℕ
 step_text number step = told_line number step.job ++ flat_map gives_line step.commands
 
--- the lines of steps, whose jobs come from the events of these numbers
-unfoldable pub steps_text : List ℕ → List Step → List ℕ
-steps_text left [] = []
-steps_text left (step ∷ steps) =
-    step_text (number_of step.job left) step ++ steps_text (left_after step.job left) steps
+-- what is written of steps, whose jobs come from the events of these numbers, if `one` is written of each
+unfoldable pub steps_as : (one : Option ℕ → Step → List ℕ) → List ℕ → List Step → List ℕ
+steps_as one left [] = []
+steps_as one left (step ∷ steps) =
+    one (number_of step.job left) step ++ steps_as one (left_after step.job left) steps
 
 -- `refuses COMMAND`
 abbrev pub refuses_line : Option Command → List ℕ
@@ -75,7 +75,7 @@ ending_text steps (Recorded pairings) = flat_map pairing_line pairings
 abbrev pub task_text : ExplainedTask → List ℕ
 task_text task =
     (codes "task at " ++ (decimal task.at ++ 10 ∷ []))
-    ++ (steps_text task.given task.steps ++ ending_text task.steps task.ending)
+    ++ (steps_as step_text task.given task.steps ++ ending_text task.steps task.ending)
 
 -- `no code for the workflow type NAME`, if it is not registered, with the name shown as names in reports are
 abbrev pub unknown_line : Option (List ℕ) → List ℕ

@@ -3,9 +3,9 @@
 ghost use Rattle.std.specs.Prelude.{◌≡◌, ◌∷◌, ◌++◌, Some, OnOk, codes, option_map};
 ghost use Rattle.std.specs.List.{flat_map};
 ghost use Rattle.std.specs.Io.KnownBytes.{Appends};
-ghost use Rattle.wh_explain_report.specs.Texts.{last_command};
+ghost use Rattle.wh_explain_report.specs.Texts.{last_command, steps_as};
 ghost use Rattle.wh_explain_report.specs.Json.{gives_object, refuses_object, number_member, told_object};
-ghost use Rattle.wh_explain_report.specs.Json.{step_objects, steps_objects, sends_object, pairing_object};
+ghost use Rattle.wh_explain_report.specs.Json.{step_objects, sends_object, pairing_object};
 ghost use Rattle.wh_explain_report.specs.Json.{ending_objects, task_objects, unknown_object, last_object};
 ghost use Rattle.wh_explain_report.specs.Json.{json_explanation};
 
@@ -100,7 +100,7 @@ fn write_step<O: Write>(number: Option<EventNo>, step: &Step, writer: &mut O) ->
 /// Writes the objects of steps, whose jobs come from the events of these numbers.
 fn write_steps<O: Write>(given: &[EventNo], steps: &[Step], writer: &mut O) -> io::Result<()>
     ensures { OnOk result
-        (Appends (O.contents writer.old) (O.contents writer.new) (steps_objects given.now steps.now)) }
+        (Appends (O.contents writer.old) (O.contents writer.new) (steps_as step_objects given.now steps.now)) }
 {
     let mut left = given;
     for step in steps {

@@ -5,7 +5,7 @@ ghost use Rattle.std.specs.List.{flat_map};
 ghost use Rattle.std.specs.Io.KnownBytes.{Appends};
 ghost use Rattle.wh_explain_report.specs.Texts.{differs_text, gives_line, last_command, pairing_line};
 ghost use Rattle.wh_explain_report.specs.Texts.{refuses_line, sends_line};
-ghost use Rattle.wh_explain_report.specs.Texts.{ending_text, number_text, step_text, steps_text, task_text, told_line};
+ghost use Rattle.wh_explain_report.specs.Texts.{ending_text, number_text, step_text, steps_as, task_text, told_line};
 ghost use Rattle.wh_explain_report.specs.Explanations.{explanation_text};
 ghost use Rattle.wh_explain_report.specs.Texts.{unknown_line};
 
@@ -105,7 +105,8 @@ fn write_step<O: Write>(number: Option<EventNo>, step: &Step, writer: &mut O) ->
 
 /// Writes the lines of steps, whose jobs come from the events of these numbers.
 fn write_steps<O: Write>(given: &[EventNo], steps: &[Step], writer: &mut O) -> io::Result<()>
-    ensures { OnOk result (Appends (O.contents writer.old) (O.contents writer.new) (steps_text given.now steps.now)) }
+    ensures { OnOk result
+        (Appends (O.contents writer.old) (O.contents writer.new) (steps_as step_text given.now steps.now)) }
 {
     let mut left = given;
     for step in steps {
