@@ -2,13 +2,14 @@
 use Rattle.std.proofs.Common.{◌≡◌, ◌∙◌, inr, ℕ, List, length, map, refl, sym, subst}
 use Rattle.std.specs.Prelude.{Bool, false, Option, Result, Ok, Err, IfErr, IfOk}
 use Rattle.std.specs.Io.KnownBytes.{Keeps}
+use Rattle.std.specs.Result.{IsErrAnd}
 use Rattle.wh_console.proofs.Printing.{quiet_twice, written_kept}
 use Rattle.wh_console.specs.Consoles.{ConsoleView, IsQuiet, Reported}
-use Rattle.wh_diagnostics.proofs.ReadFailures.{unread_unreported}
-use Rattle.wh_diagnostics.specs.Failures.{IsReadFailure, IsReportFailure}
+use Rattle.wh_diagnostics.specs.Failures.{IsReadFailure}
 use Rattle.wh_diagnostics.specs.Printing.{status_with}
 use Rattle.wh_diagnostics.specs.declared.failures.Failure.{Failure}
 use Rattle.wh_diagnostics.specs.declared.failures.Failure.TheVariants.{Output}
+use Rattle.wh_file_faults.specs.declared.command_fault.CommandFault.{CommandFault}
 use Rattle.wh_service.specs.Faults.{AreFaultsOf}
 use Rattle.wh_console.specs.Inputs.{IsReadFrom}
 use Rattle.wh_console.specs.declared.files.Input.{Input}
@@ -16,7 +17,8 @@ use Rattle.wh_slots.specs.declared.sizes.Config.{Config}
 use Rattle.wh_diagnostics.specs.Listings.{IsListed, lacks_files}
 use Rattle.wh_diagnostics.specs.Readings.{Gives, IsReadAs}
 use Rattle.wh_diagnostics.proofs.Batched.{stopped_after_all, stopped_whole, told_in_all, HasAMarkEach}
-use Rattle.wh_diagnostics.specs.Batches.{reported_batches, reports_after, reports_of, HasStopped}
+use Rattle.wh_diagnostics.proofs.Unreported.{lacks_after_stop, lacks_for_output}
+use Rattle.wh_diagnostics.specs.Batches.{reported_batches, reports_after, reports_of, HasStopped, LacksReport}
 use Rattle.wh_diagnostics.specs.ProgressLines.{end_text}
 use Rattle.wh_diagnostics.specs.ProgressModes.{mode_by}
 use Rattle.wh_diagnostics.specs.declared.progress_modes.ProgressMode.{ProgressMode}
@@ -27,11 +29,11 @@ use Rattle.wh_service.specs.Services.{HostsBy, IsEndOf, IsHosted, IsServiceEnd}
 use Rattle.wh_service.specs.declared.readings.ReadFiles.{ReadFiles}
 use Rattle.wh_service.specs.declared.service.PendingReport.{PendingReport}
 use Rattle.wh_service.specs.declared.service.ServiceEnd.{ServiceEnd}
-use Rattle.wh_service_command.specs.Commands.{faulty_in, HasFinished, HasNotServed, HasNotServedFolder, HasReadAll, HasServed, HasServedAll, HasServedFolder}
+use Rattle.wh_service_command.specs.Commands.{faulty_in, HasFinished, HasNotServedFolder, HasServed, HasServedAll, HasServedFolder}
 use Rattle.wh_workflow.specs.Law.{Program}
 
 -- what was written of a service stays
-end_kept : (served : PendingReport) (old mid new : Option (List ℕ)) (end : ServiceEnd)
+pub end_kept : (served : PendingReport) (old mid new : Option (List ℕ)) (end : ServiceEnd)
     → IsEndOf served old mid end → Keeps mid new → IsEndOf served old new end
 end_kept served old mid new end h kept = record {
   written = written_kept old mid new _ h.written kept;
@@ -41,6 +43,17 @@ end_kept served old mid new end h kept = record {
   faultless = h.faultless;
   faults = h.faults;
 }
+
+-- the status that was flushed is the one that was given
+pub own_status : (answer : Result ℕ CommandFault) (given own : ℕ) → answer ≡ Ok given → answer ≡ Ok own → own ≡ given
+own_status answer given own is also = cc
+
+-- what was written of a service can't be put out
+pub cut_by : {X : Type 0} (answer : Result X Failure) (failure : Failure) (old first new : ConsoleView)
+    → failure ≡ Output → IsErrAnd answer (λ own. own ≡ failure) → IsQuiet old first → IsQuiet first new
+    → IfErr answer (λ own. (own ≡ Output) × IsQuiet old new)
+cut_by (Ok value) failure old first new output is quiet more = tt
+cut_by (Err own) failure old first new output is quiet more = (is ∙ output, quiet_twice old first new quiet more)
 
 -- each input has a mark
 marked : {S : Type 0} (gives : Gives) (program : Program S) → HasAMarkEach (HasRead (IsReadAs gives) program) faulty_in
@@ -55,39 +68,24 @@ pub served_all : {S : Type 0} (gives : Gives) (program : Program S) (types : Lis
     → HasFinished types served lacks first new status
     → HasServedAll gives program types hosts sizes inputs mode lacks old new status
 served_all gives program types hosts config sizes inputs mode lines lacks old read first new served status same many h erased finished =
-    let ended = finished.ended in
-    let written = end_kept served first.output finished.between.output ended.between.output finished.end finished.written ended.kept in
-    let service = end_of_served hosts config (readings_of h.read) h.read.faults.items served first.output ended.between.output finished.end h.service written in
+    let service = end_of_served hosts config (readings_of h.read) h.read.faults.items served first.output finished.between.output finished.end h.service finished.written in
     let told = told_in_all (HasRead (IsReadAs gives) program) faulty_in mode inputs lines h.read old read first (marked gives program) many h.found h.reported erased in
     record {
       files = h.found.files;
       end = finished.end;
       read = first;
-      between = ended.between;
-      ended = ended.ended;
+      between = finished.between;
+      ended = finished.ended;
       from = h.found.from;
       told = subst (λ l. Reported old first (reports_of mode (faulty_of l))) h.found.readings told;
-      quiet = quiet_twice first finished.between ended.between finished.quiet ended.quiet;
-      served = subst (λ l. IsServiceEnd hosts sizes l first.output ended.between.output finished.end) h.found.readings
-          (subst (λ c. IsServiceEnd hosts c (readings_of h.read) first.output ended.between.output finished.end) same service);
+      quiet = finished.quiet;
+      served = subst (λ l. IsServiceEnd hosts sizes l first.output finished.between.output finished.end) h.found.readings
+          (subst (λ c. IsServiceEnd hosts c (readings_of h.read) first.output finished.between.output finished.end) same service);
       faults = subst (λ l. AreFaultsOf program h.found.files l) (sym (finished.written.faults ∙ h.service.reported)) h.found.reported;
-      reported = ended.reported;
-      known = ended.known;
-      ends = ended.ends;
+      reported = finished.reported;
+      known = finished.known;
+      ends = finished.ends;
     }
-
--- all inputs were read, and progress was reported
-all_read : {S : Type 0} (gives : Gives) (program : Program S) (hosts : HostsBy) (config : Config) (inputs : List Input) (mode : ProgressMode) (lines : ℕ) (old read first : ConsoleView) (served : PendingReport)
-    → lines ≡ reported_batches mode (length inputs)
-    → HasServed gives program hosts config inputs mode old read served
-    → Reported read first (end_text mode lines)
-    → HasReadAll gives inputs mode old first
-all_read gives program hosts config inputs mode lines old read first served many h erased = record {
-  files = h.found.files;
-  from = h.found.from;
-  told = subst (λ l. Reported old first (reports_of mode (faulty_of l))) h.found.readings
-      (told_in_all (HasRead (IsReadAs gives) program) faulty_in mode inputs lines h.read old read first (marked gives program) many h.found h.reported erased);
-}
 
 -- what was served can't be written
 pub cut_off : {S : Type 0} (gives : Gives) (program : Program S) (hosts : HostsBy) (config : Config) (inputs : List Input) (mode : ProgressMode) (lines : ℕ) (old read first new : ConsoleView) (served : PendingReport) (failure : Failure)
@@ -95,16 +93,10 @@ pub cut_off : {S : Type 0} (gives : Gives) (program : Program S) (hosts : HostsB
     → HasServed gives program hosts config inputs mode old read served
     → Reported read first (end_text mode lines)
     → (failure ≡ Output) × IsQuiet first new
-    → HasNotServed gives program inputs mode old new failure
-cut_off gives program hosts config inputs mode lines old read first new served failure many h erased cut = record {
-  between = first;
-  stopped = stopped_whole (HasRead (IsReadAs gives) program) faulty_in mode inputs lines old read first many
-      (stopped_after_all (HasRead (IsReadAs gives) program) faulty_in mode inputs h.read old read h.found h.reported) erased;
-  quiet = cut.1;
-  unwritten = λ other. absurd (other cut.0);
-  why = subst IsReportFailure (sym cut.0) tt;
-  read = λ is. all_read gives program hosts config inputs mode lines old read first served many h erased;
-}
+    → LacksReport (HasRead (IsReadAs gives) program) faulty_in mode inputs old new failure
+cut_off gives program hosts config inputs mode lines old read first new served failure many h erased cut =
+    let told = told_in_all (HasRead (IsReadAs gives) program) faulty_in mode inputs lines h.read old read first (marked gives program) many h.found h.reported erased in
+    lacks_for_output (HasRead (IsReadAs gives) program) faulty_in mode inputs h.read old first new failure (marked gives program) h.found told cut
 
 -- so it is with what the rest of the command gives
 pub served_all_if : {S : Type 0} (gives : Gives) (program : Program S) (types : List ℕ) (hosts : HostsBy) (config sizes : Config) (inputs : List Input) (mode : ProgressMode) (lines : ℕ) (lacks : Bool) (old read first new : ConsoleView) (served : PendingReport) (answer : Result ℕ Failure)
@@ -123,7 +115,7 @@ pub cut_off_if : {S : Type 0} (gives : Gives) (program : Program S) (hosts : Hos
     → HasServed gives program hosts config inputs mode old read served
     → Reported read first (end_text mode lines)
     → IfErr answer (λ failure. (failure ≡ Output) × IsQuiet first new)
-    → IfErr answer (HasNotServed gives program inputs mode old new)
+    → IfErr answer (LacksReport (HasRead (IsReadAs gives) program) faulty_in mode inputs old new)
 cut_off_if gives program hosts config inputs mode lines old read first new served (Ok status) many h erased cut = tt
 cut_off_if gives program hosts config inputs mode lines old read first new served (Err failure) many h erased cut =
     cut_off gives program hosts config inputs mode lines old read first new served failure many h erased cut
@@ -134,15 +126,10 @@ pub not_served : {S : Type 0} (gives : Gives) (program : Program S) (inputs : Li
     → HasStopped (HasRead (IsReadAs gives) program) faulty_in mode inputs old read
     → Reported read new (end_text mode lines)
     → IsReadFailure failure
-    → HasNotServed gives program inputs mode old new failure
-not_served gives program inputs mode lines old read new failure many stopped erased why = record {
-  between = new;
-  stopped = stopped_whole (HasRead (IsReadAs gives) program) faulty_in mode inputs lines old read new many stopped erased;
-  quiet = record { named = refl; errors = refl; whole = refl };
-  unwritten = λ other. refl;
-  why = unread_unreported failure why;
-  read = λ is. absurd (subst IsReadFailure is why);
-}
+    → LacksReport (HasRead (IsReadAs gives) program) faulty_in mode inputs old new failure
+not_served gives program inputs mode lines old read new failure many stopped erased why =
+    lacks_after_stop (HasRead (IsReadAs gives) program) faulty_in mode inputs old new failure
+    (stopped_whole (HasRead (IsReadAs gives) program) faulty_in mode inputs lines old read new many stopped erased) why
 
 -- all was read, but not served
 pub read_alone : {S : Type 0} (gives : Gives) (program : Program S) (inputs : List Input) (mode : ProgressMode) (old new : ConsoleView) (read : ReadFiles)
@@ -190,7 +177,7 @@ served_folder program types dir config required progress left_out lacks link mod
 pub stopped_in_folder : {S : Type 0} (program : Program S) (dir : List ℕ) (progress left_out : Bool) (link : Option (List ℕ)) (mode : ProgressMode) (inputs : List Input) (old between new : ConsoleView) (answer : Result ℕ Failure)
     → IsListed false dir inputs left_out old between
     → mode ≡ mode_by link progress
-    → IfErr answer (HasNotServed IsReadFrom program inputs mode between new)
+    → IfErr answer (LacksReport (HasRead (IsReadAs IsReadFrom) program) faulty_in mode inputs between new)
     → IfErr answer (HasNotServedFolder program dir progress old new)
 stopped_in_folder program dir progress left_out link mode inputs old between new (Ok status) listed shown h = tt
 stopped_in_folder program dir progress left_out link mode inputs old between new (Err failure) listed shown h =
@@ -199,5 +186,5 @@ stopped_in_folder program dir progress left_out link mode inputs old between new
       left_out = left_out;
       between = between;
       listed = listed;
-      done = (link, subst (λ m. HasNotServed IsReadFrom program inputs m between new failure) shown h);
+      done = (link, subst (λ m. LacksReport (HasRead (IsReadAs IsReadFrom) program) faulty_in m inputs between new failure) shown h);
     })

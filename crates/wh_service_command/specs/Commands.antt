@@ -1,12 +1,9 @@
 -- What a service of files writes and reports.
-use Rattle.std.specs.Prelude.{◌≡◌, ◌≢◌, ◌⊎◌, ℕ, List, length, map, Bool, false, Option}
-use Rattle.std.specs.Io.KnownBytes.{Keeps}
+use Rattle.std.specs.Prelude.{◌≡◌, ◌⊎◌, ℕ, List, length, map, Bool, false, Option}
 use Rattle.std.specs.List.{AllZip}
 use Rattle.wh_console.specs.Consoles.{ConsoleView, IsQuiet, Reported}
-use Rattle.wh_diagnostics.specs.Failures.{IsReportFailure}
 use Rattle.wh_diagnostics.specs.Printing.{status_with}
 use Rattle.wh_diagnostics.specs.declared.failures.Failure.{Failure}
-use Rattle.wh_diagnostics.specs.declared.failures.Failure.TheVariants.{Output}
 use Rattle.wh_file_faults.specs.Faults.{File}
 use Rattle.wh_console.specs.Inputs.{IsReadFrom}
 use Rattle.wh_console.specs.declared.files.Input.{Input}
@@ -14,7 +11,7 @@ use Rattle.wh_slots.specs.declared.sizes.Config.{Config}
 use Rattle.wh_diagnostics.specs.Listings.{AfterListing, IsListed, IsUnreadAt, lacks_files}
 use Rattle.wh_diagnostics.specs.Readings.{Gives, IsReadAs}
 use Rattle.wh_diagnostics.specs.KnownTypes.{known_types_text}
-use Rattle.wh_diagnostics.specs.Batches.{HasStoppedWhole, reports_after, reported_batches, reports_of}
+use Rattle.wh_diagnostics.specs.Batches.{LacksReport, reports_after, reported_batches, reports_of}
 use Rattle.wh_diagnostics.specs.ProgressModes.{mode_by}
 use Rattle.wh_diagnostics.specs.declared.progress_modes.ProgressMode.{ProgressMode}
 use Rattle.wh_service.specs.Faults.{AreFaultsOf}
@@ -39,26 +36,18 @@ pub record HasServed {S : Type 0} (gives : Gives) (program : Program S) (hosts :
       (reports_after mode (length inputs) (faulty_in read) (reported_batches mode (length inputs)))
   pub service : IsServed hosts config (readings_of read) read.faults.items served
 
--- once the report of a service was out, the rest was reported, and the registered workflow types if the type of a file
--- is not registered; the status is that of the service, unless files are lacking
-pub record HasEnded (types : List ℕ) (end : ServiceEnd) (lacks : Bool) (old new : ConsoleView)
-    (status : ℕ) : Type 0 where
-  pub between : ConsoleView
-  pub ended : ConsoleView
-  pub quiet : IsQuiet old between
-  pub kept : Keeps old.output between.output
-  pub reported : Reported between ended (service_lines end)
-  pub known : Reported ended new (known_types_text types (faults_lack_code end.file_faults.items))
-  pub ends : status ≡ status_with lacks end.status
-
--- the report of what was served was written, and once it was out, the rest was reported
+-- the report of what was served was written, and once it was out, the rest was reported, and the registered workflow
+-- types if the type of a file is not registered; the status is that of the service, unless files are lacking
 pub record HasFinished (types : List ℕ) (served : PendingReport) (lacks : Bool) (old new : ConsoleView)
     (status : ℕ) : Type 0 where
   pub end : ServiceEnd
   pub between : ConsoleView
+  pub ended : ConsoleView
   pub quiet : IsQuiet old between
   pub written : IsEndOf served old.output between.output end
-  pub ended : HasEnded types end lacks between new status
+  pub reported : Reported between ended (service_lines end)
+  pub known : Reported ended new (known_types_text types (faults_lack_code end.file_faults.items))
+  pub ends : status ≡ status_with lacks end.status
 
 -- the files of inputs, in the same order, were read; progress was reported, by which of them have no history that can be
 -- read, and what erases a line of it was written; the report of a service of these files was written, which does not
@@ -81,26 +70,6 @@ pub record HasServedAll {S : Type 0} (gives : Gives) (program : Program S) (type
   pub known : Reported ended new (known_types_text types (faults_lack_code end.file_faults.items))
   pub ends : status ≡ status_with lacks end.status
 
--- the files of inputs, in the same order, were read, and progress was reported, by which of them have no history that
--- can be read
-pub record HasReadAll (gives : Gives) (inputs : List Input) (mode : ProgressMode) (old new : ConsoleView)
-    : Type 0 where
-  pub files : List File
-  pub from : AllZip (IsReadAs gives) inputs files
-  pub told : Reported old new (reports_of mode (faulty_of (map reading_of files)))
-
--- there is no report of a service: progress was reported after some batches of what was read, perhaps none, what erases
--- a line of it was written, and nothing more was reported; if the output failed, all inputs were read before, and
--- otherwise nothing was written either
-pub record HasNotServed {S : Type 0} (gives : Gives) (program : Program S) (inputs : List Input)
-    (mode : ProgressMode) (old new : ConsoleView) (failure : Failure) : Type 0 where
-  pub between : ConsoleView
-  pub stopped : HasStoppedWhole (HasRead (IsReadAs gives) program) faulty_in mode inputs old between
-  pub quiet : IsQuiet between new
-  pub unwritten : failure ≢ Output → new ≡ between
-  pub why : IsReportFailure failure
-  pub read : failure ≡ Output → HasReadAll gives inputs mode old between
-
 -- the files of a folder were served by a host of these sizes, and progress was reported as some link of the standard
 -- error and the option for it have it
 abbrev pub HasServedFolder : {S : Type 0} → Program S → (types dir : List ℕ) → Config → (required progress : Bool)
@@ -117,4 +86,5 @@ abbrev pub HasNotServedFolder : {S : Type 0} → Program S → (dir : List ℕ) 
 HasNotServedFolder program dir progress old new failure =
     (IsUnreadAt dir failure × (new ≡ old))
     ⊎ AfterListing (IsListed false dir) (λ inputs left_out old new failure. (link : Option (List ℕ))
-    × HasNotServed IsReadFrom program inputs (mode_by link progress) old new failure) old new failure
+    × LacksReport (HasRead (IsReadAs IsReadFrom) program) faulty_in (mode_by link progress) inputs old new failure)
+    old new failure

@@ -1,5 +1,5 @@
 -- What is reported of a service beside its report.
-use Rattle.std.specs.Prelude.{ℕ, List, [], ◌∷◌, ◌++◌, codes, Bool, true, false, Option, Some, None, if◌then◌else◌}
+use Rattle.std.specs.Prelude.{ℕ, List, [], ◌∷◌, ◌++◌, codes, Bool, false, not, Option, Some, None, if◌then◌else◌}
 use Rattle.std.specs.List.{flat_map, list_any}
 use Rattle.wh_diagnostics.specs.Diagnostics.{named_line}
 use Rattle.wh_diagnostics.specs.KnownTypes.{is_no_code}
@@ -33,20 +33,15 @@ failure_lines before [] name = []
 failure_lines before (failure ∷ rest) name =
     failure_line before failure rest name ++ failure_lines (Some failure) rest name
 
--- whether no worker has a fault
-abbrev pub worker_lines : Bool → List ℕ → List ℕ
-worker_lines true name = []
-worker_lines false name = named_line (codes "a worker has a fault: a call of its source failed") name
-
--- whether a last task was not compared with its record
-abbrev pub uncompared_lines : Bool → List ℕ → List ℕ
-uncompared_lines true name =
-    named_line (codes "the last task of a recorded history is not compared with its record; replay does that") name
-uncompared_lines false name = []
+-- `<name>: <text>`, if there is reason for it
+abbrev pub line_if : Bool → (text name : List ℕ) → List ℕ
+line_if told text name = if told then named_line text name else []
 
 -- what is reported of a service beside its report: the files that are not JSON, the failed tasks, a fault of a worker,
 -- and whether a last task was not compared
 abbrev pub service_lines : ServiceEnd → List ℕ → List ℕ
 service_lines end name =
     fault_lines end.file_faults.items name ++ (failure_lines None end.failures.items name
-    ++ (worker_lines end.faultless name ++ uncompared_lines end.uncompared name))
+    ++ (line_if (not end.faultless) (codes "a worker has a fault: a call of its source failed") name
+    ++ line_if end.uncompared
+    (codes "the last task of a recorded history is not compared with its record; replay does that") name))

@@ -4,8 +4,7 @@ ghost use Rattle.std.specs.Prelude.{◌≡◌, None, OnOk, option_map};
 ghost use Rattle.std.specs.Io.KnownBytes.{Appends};
 ghost use Rattle.wh_file_faults.specs.DetailTexts.{detail_line};
 ghost use Rattle.wh_service_command.specs.Diagnostics.{failure_line, failure_lines, fault_lines};
-ghost use Rattle.wh_service_command.specs.Diagnostics.{faults_lack_code, is_reported_before};
-ghost use Rattle.wh_service_command.specs.Diagnostics.{service_lines, uncompared_lines, worker_lines};
+ghost use Rattle.wh_service_command.specs.Diagnostics.{faults_lack_code, is_reported_before, line_if, service_lines};
 
 use std::io;
 use std::io::Write;
@@ -14,6 +13,13 @@ use wh_diagnostics::{is_no_code, write_line};
 use wh_file_faults::write_detail;
 use wh_service::{FileFailure, FileFault, RepeatedFailure, ServiceEnd, is_repeat, repeats};
 use wh_tester::Shown;
+
+/// That a worker has a fault.
+const WORKER_FAULT: &str = "a worker has a fault: a call of its source failed";
+
+/// That not all that is recorded was compared.
+const UNCOMPARED: &str =
+    "the last task of a recorded history is not compared with its record; replay does that";
 
 /// What is reported of a service beside its report.
 #[derive(Drop)]
@@ -95,33 +101,15 @@ fn write_failures<E: Write>(failures: &[FileFailure], name: &str, writer: &mut E
     Ok(())
 }
 
-/// Writes that a worker has a fault, if one has.
-fn write_worker<E: Write>(faultless: bool, name: &str, writer: &mut E) -> io::Result<()>
-    ensures { OnOk result (Appends (E.contents writer.old) (E.contents writer.new) (worker_lines faultless name.now)) }
+/// Writes a line under the program's name, if there is reason for it.
+fn write_line_if<E: Write>(told: bool, text: &str, name: &str, writer: &mut E) -> io::Result<()>
+    ensures { OnOk result (Appends (E.contents writer.old) (E.contents writer.new) (line_if told text.now name.now)) }
 {
-    if faultless {
-        return Ok(());
+    if told {
+        write_line(text, name, writer)
+    } else {
+        Ok(())
     }
-    write_line(
-        "a worker has a fault: a call of its source failed",
-        name,
-        writer,
-    )
-}
-
-/// Writes that not all that is recorded was compared, if so.
-fn write_uncompared<E: Write>(uncompared: bool, name: &str, writer: &mut E) -> io::Result<()>
-    ensures { OnOk result (Appends (E.contents writer.old) (E.contents writer.new)
-        (uncompared_lines uncompared name.now)) }
-{
-    if !uncompared {
-        return Ok(());
-    }
-    write_line(
-        "the last task of a recorded history is not compared with its record; replay does that",
-        name,
-        writer,
-    )
 }
 
 /// Writes where files are not JSON and why tasks failed, and then a line if a worker has a fault,
@@ -138,8 +126,8 @@ fn write_service<E: Write>(end: ServiceEnd, name: &str, writer: &mut E) -> io::R
     } = end;
     write_faults(file_faults, name, writer)?;
     write_failures(failures.as_slice(), name, writer)?;
-    write_worker(faultless, name, writer)?;
-    write_uncompared(uncompared, name, writer)
+    write_line_if(!faultless, WORKER_FAULT, name, writer)?;
+    write_line_if(uncompared, UNCOMPARED, name, writer)
 }
 
 impl Message for ServiceNotes {

@@ -3,13 +3,13 @@
 ghost use Rattle.std.specs.Prelude.{◌≡◌, IfErr, IfOk, vec_len};
 ghost use Rattle.wh_command_line.specs.Options.{sizes_of};
 ghost use Rattle.wh_console.specs.Consoles.{IsQuiet};
-ghost use Rattle.wh_diagnostics.specs.Batches.{HasStopped};
+ghost use Rattle.wh_diagnostics.specs.Batches.{HasStopped, LacksReport};
 ghost use Rattle.wh_diagnostics.specs.Failures.{IsReadFailure};
 ghost use Rattle.wh_diagnostics.specs.Readings.{IsReadAs};
 ghost use Rattle.wh_slots.specs.Sizes.{IsConfig};
 ghost use Rattle.wh_service.specs.Readings.{HasRead};
 ghost use Rattle.wh_service.specs.Services.{IsEndOf, IsHost, IsHosted, leaves};
-ghost use Rattle.wh_service_command.specs.Commands.{HasEnded, HasFinished, HasNotServed, HasNotServedFolder, HasServed, HasServedAll, HasServedFolder, faulty_in};
+ghost use Rattle.wh_service_command.specs.Commands.{HasFinished, HasNotServedFolder, HasServed, HasServedAll, HasServedFolder, faulty_in};
 
 use crate::batches::read_batches;
 use crate::diagnostics::{ServiceNotes, faults_lack_code};
@@ -30,23 +30,6 @@ use wh_service::{
 };
 use wh_workflow::Workflow;
 
-/// The status of a service whose report is written, once that is out and the rest is reported.
-fn end_service<O: Write, E: Write>(
-    end: ServiceEnd,
-    types: &str,
-    lacks: bool,
-    console: &mut Console<'_, O, E>,
-) -> Result<u8, Failure>
-    ensures ended { IfOk result (HasEnded types.now end lacks console.old console.new) }
-    ensures cut { IfErr result (λ failure. (failure ≡ Failure.Output) × IsQuiet console.old console.new) }
-{
-    let status = flush_answer(Ok(end.status), console)?;
-    let lacking = faults_lack_code(end.file_faults.as_slice());
-    console.report(ServiceNotes { end });
-    console.report(KnownTypes { types, lacking });
-    Ok(status_with(lacks, status))
-}
-
 /// Writes the report of what was served.
 fn print_service<O: Write, E: Write>(
     served: PendingReport,
@@ -62,7 +45,8 @@ fn print_service<O: Write, E: Write>(
     }
 }
 
-/// Writes the report of what was served, and once it is out, reports the rest.
+/// Writes the report of what was served, and once it is out, reports the rest. The status is that
+/// of the service, and 1 if files are lacking.
 fn finish<O: Write, E: Write>(
     served: PendingReport,
     types: &str,
@@ -73,7 +57,11 @@ fn finish<O: Write, E: Write>(
     ensures cut { IfErr result (λ failure. (failure ≡ Failure.Output) × IsQuiet console.old console.new) }
 {
     let end = print_service(served, console)?;
-    end_service(end, types, lacks, console)
+    let status = flush_answer(Ok(end.status), console)?;
+    let lacking = faults_lack_code(end.file_faults.as_slice());
+    console.report(ServiceNotes { end });
+    console.report(KnownTypes { types, lacking });
+    Ok(status_with(lacks, status))
 }
 
 /// Reads inputs batch by batch, and serves their tasks by a host of these sizes.
@@ -132,8 +120,8 @@ where
     requires { IsHost (F.pre host) (leaves (F.post host)) }
     ensures served { IfOk result (HasServedAll R.gives W.program types.now (leaves (F.post host))
         (sizes_of options) inputs.items mode lacks console.old console.new) }
-    ensures stopped { IfErr result
-        (HasNotServed R.gives W.program inputs.items mode console.old console.new) }
+    ensures stopped { IfErr result (LacksReport (HasRead (IsReadAs R.gives) W.program) faulty_in mode
+        inputs.items console.old console.new) }
 {
     let lines = reported_batches(mode, inputs.len());
     let config = options.config();
