@@ -50,10 +50,15 @@ fn values_text(rt: &impl Abort, alloc: Global, values: &[OtherValue]) -> String 
     text
 }
 
+/// The values of a file that differ.
+fn values_in(alloc: Global, bytes: &[u8]) -> Vec<OtherValue> {
+    check_values::<All>(alloc, bytes).1
+}
+
 /// The values of a history that differ, with commas between, or `none`.
 fn values(rt: &impl Abort, alloc: Global, history: &'static str) -> String {
     let bytes = bytes_of(alloc, history).expect(rt, history);
-    let (_finding, values) = check_values::<All>(alloc, bytes.as_slice());
+    let values = values_in(alloc, bytes.as_slice());
     if values.is_empty() {
         return String::from_str(alloc, "none").expect(rt, "memory");
     }
