@@ -6,6 +6,7 @@ use test_support::{bytes_of, row};
 use wh_phrases::{OtherValue, OtherValueText};
 use wh_report::check_values;
 use wh_sample_workflows::All;
+use wh_workflow::Workflow;
 
 /// Histories, each with the values that differ.
 const VALUES: &str = "\
@@ -51,14 +52,14 @@ fn values_text(rt: &impl Abort, alloc: Global, values: &[OtherValue]) -> String 
 }
 
 /// The values of a file that differ.
-fn values_in(alloc: Global, bytes: &[u8]) -> Vec<OtherValue> {
-    check_values::<All>(alloc, bytes).1
+fn values_in<W: Workflow>(alloc: Global, bytes: &[u8]) -> Vec<OtherValue> {
+    check_values::<W>(alloc, bytes).1
 }
 
 /// The values of a history that differ, with commas between, or `none`.
 fn values(rt: &impl Abort, alloc: Global, history: &'static str) -> String {
     let bytes = bytes_of(alloc, history).expect(rt, history);
-    let values = values_in(alloc, bytes.as_slice());
+    let values = values_in::<All>(alloc, bytes.as_slice());
     if values.is_empty() {
         return String::from_str(alloc, "none").expect(rt, "memory");
     }
