@@ -53,7 +53,9 @@ fn values_text(rt: &impl Abort, alloc: Global, values: &[OtherValue]) -> String 
 
 /// The values of a file that differ.
 fn values_in<W: Workflow>(alloc: Global, bytes: &[u8]) -> Vec<OtherValue> {
-    check_values::<W>(alloc, bytes).1
+    let (explanation, values) = check_values::<W>(alloc, bytes);
+    drop(explanation);
+    values
 }
 
 /// The values of a history that differ, with commas between, or `none`.
