@@ -43,8 +43,8 @@ pub struct EventDetails {
     pub task_event: u64,
     /// The update that it tells of.
     pub update: UpdateName,
-    /// What failed: the failure (`failure`, or else `lastFailure`, or else that of the outcome of an
-    /// update), its cause, the cause of that one and so on, but no more than `MOST_FAILURES`.
+    /// What failed: the failure (`failure`, or else `lastFailure`, or else that of the outcome of
+    /// an update), its cause, the cause of that one and so on, but no more than `MOST_FAILURES`.
     pub failures: Items<ViewedFailure>,
     /// Why it ended, or was not tried again.
     pub ending: Ending,
@@ -132,14 +132,15 @@ pub enum RunStatus {
     ContinuedAsNew,
 }
 
-/// A workflow task that was scheduled, and is not completed. The server tries one that failed or timed out again, and
-/// records further attempts only with the one that completes it, or where other events came in between (Temporal
-/// documentation, "Events").
+/// A workflow task that was scheduled, and is not completed. The server tries one that failed or
+/// timed out again, and records further attempts only with the one that completes it, or where
+/// other events came in between (Temporal documentation, "Events").
 #[derive(Clone, Copy, Debug)]
 pub struct OpenTask {
     /// The index of the event that scheduled it.
     pub scheduled: usize,
-    /// The index of the event that says that a worker has started it, since it last failed or timed out.
+    /// The index of the event that says that a worker has started it, since it last failed or timed
+    /// out.
     pub started: Option<usize>,
     /// The index of the last event that says that it failed or timed out.
     pub failed: Option<usize>,
@@ -212,7 +213,7 @@ pub struct View {
     /// What the reader of histories does not support of it: each type and each name of markers
     /// once, in the order of their first events.
     pub unsupported: Items<UnsupportedKind>,
-    /// What the activities, the timers and the child workflows of each type come to, in the order of
-    /// the first of each. All timers are of one type.
+    /// What the activities, the timers and the child workflows of each type come to, in the order
+    /// of the first of each. All timers are of one type.
     pub sums: Items<TypeSum>,
 }

@@ -69,8 +69,8 @@ impl View {
     ghost use Rattle.std.specs.Prelude.{◌≡◌};
     ghost use Rattle.wh_view.specs.Waiting.{open_task};
 
-    /// Returns the workflow task that was scheduled last, if it is not completed. One that failed or timed out is open,
-    /// since the server tries it again.
+    /// Returns the workflow task that was scheduled last, if it is not completed. One that failed
+    /// or timed out is open, since the server tries it again.
     pub fn open_task(&self) -> Option<OpenTask>
         ensures { result ≡ open_task self.now.events }
     {

@@ -119,8 +119,8 @@ fn write_things<O: Write>(view: &View, writer: &mut O) -> io::Result<()>
     Ok(())
 }
 
-/// The members of a workflow task that say of its last attempt that a worker has started it, or that it failed or timed
-/// out.
+/// The members of a workflow task that say of its last attempt that a worker has started it, or
+/// that it failed or timed out.
 #[derive(Drop)]
 struct AttemptMembers<'a>(&'a View, OpenTask);
 

@@ -113,7 +113,8 @@ fn has_start(events: &[ViewedEvent]) -> bool
 }
 
 /// Returns how long a run took, in milliseconds, from its first event to the one that closes it.
-/// `None` if it is open, a time is not known, or the history does not begin with the start of the run.
+/// `None` if it is open, a time is not known, or the history does not begin with the start of the
+/// run.
 pub fn run_span(view: &View) -> Option<u64>
     ensures { result ≡ run.run_span view.now }
 {

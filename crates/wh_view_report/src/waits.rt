@@ -68,8 +68,9 @@ impl fmt::Display for StartedText<'_> {
     }
 }
 
-/// What is told of the start of a thing that a run waits for: of a child whether it has started; of an activity that, if
-/// it is recorded, since the start of one that may be tried again is recorded with its end; else nothing.
+/// What is told of the start of a thing that a run waits for: of a child whether it has started; of
+/// an activity that, if it is recorded, since the start of one that may be tried again is recorded
+/// with its end; else nothing.
 #[derive(Drop)]
 struct ThingStart<'a>(&'a View, &'a ViewedThing);
 
@@ -168,8 +169,8 @@ impl fmt::Display for FailedText<'_> {
     }
 }
 
-/// What is told of the attempts of a workflow task that a run waits for: that the last one failed or timed out, or else
-/// whether a worker has started it.
+/// What is told of the attempts of a workflow task that a run waits for: that the last one failed
+/// or timed out, or else whether a worker has started it.
 #[derive(Drop)]
 struct AttemptText<'a>(&'a View, OpenTask);
 
@@ -190,8 +191,8 @@ impl fmt::Display for AttemptText<'_> {
     }
 }
 
-/// The workflow task for which a run waits, by the event that scheduled it: since when, and that its last attempt
-/// failed or timed out, or else whether a worker has started it.
+/// The workflow task for which a run waits, by the event that scheduled it: since when, and that
+/// its last attempt failed or timed out, or else whether a worker has started it.
 #[derive(Drop)]
 pub struct AwaitedTask<'a>(pub &'a View, pub OpenTask, pub &'a ViewedEvent);
 
