@@ -9,6 +9,7 @@ ghost use Rattle.wh_rows.specs.Courses.{Comes, Gives};
 ghost use Rattle.wh_rows.specs.Promises.{keeps_watch};
 ghost use Rattle.row_samples.specs.declared.booking.TheConstants.{BOOKING};
 
+use wh_possible_runs::StuckFree;
 use wh_rows::words::*;
 use wh_rows::{Promising, rows};
 
@@ -65,3 +66,9 @@ pub fn refunds_each_charge()
     ensures { EachFollowed (seen BOOKING) (StartsActivity (codes "ChargeCard"))
         (StartsActivity (codes "RefundCard")) unsuccessful }
 {}
+
+impl StuckFree for BookingTable {
+    ghost steps = { 4000 };
+
+    ghost never_stuck = { refl };
+}

@@ -26,7 +26,7 @@ use Rattle.wh_rows.specs.Laws.{after_all}
 use Rattle.wh_rows.specs.Courses.{Entry, gave, course, goes_on, begins}
 use Rattle.wh_rows.specs.Promises.{Promise, PromisesAll, KeptAllIn}
 use Rattle.wh_rows.proofs.Sound.{no_row_at}
-use Rattle.wh_promise_check.specs.Kept.{without_markers, commands_in, HasIssued, ended, passed, ran, Interleaved, Told, told_end, told_on, told_cut, input_in, input_of, HistoriesAreCourses, HistoriesKeep}
+use Rattle.wh_promise_check.specs.Kept.{without_markers, commands_in, HasIssued, ended, passed, ran, Told, told_end, told_on, told_cut, input_in, input_of, HistoriesAreCourses, HistoriesKeep}
 use Rattle.wh_promise_check.proofs.Stepped.{plain_append, left_by, given_by, left_append, given_append, TimeGivesNothing, Activated, activate_does}
 use Rattle.wh_table.proofs.Starts.{goes_append}
 use Rattle.wh_promise_check.proofs.Started.{no_cut, no_starts, no_starts_append, StartsOnce, starts_once, cut_goes, BeginsWith, not_begun, begins_by, cut_begins, interleaved_goes}

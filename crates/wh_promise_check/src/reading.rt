@@ -1,87 +1,18 @@
-//! How a phrase says a promise.
+//! The promise that a phrase says, about what may happen.
 ghost use Rattle.std.specs.Prelude.{◌≡◌, IfOk};
-ghost use Rattle.wh_promise_check.specs.Phrases.{before, after, behind, spaced, is_name, job_in, close_in, name_in, happening_in};
-ghost use Rattle.wh_promise_check.specs.Phrases.{at_most_in, both_in, pair_in, between_in, promise_in};
+ghost use Rattle.wh_promise_phrases.specs.Phrases.{phrase_shown};
+ghost use Rattle.wh_promise_phrases.specs.Things.{thing_shown};
+ghost use Rattle.wh_promise_check.specs.Phrases.{job_in, job_happening, happening_by, happening_in, both_in};
+ghost use Rattle.wh_promise_check.specs.Phrases.{at_most, only_after, never_after, between, promise_by, promise_in};
 
 use std::alloc::Global;
 use wh_events::{OutOfMemory, Text};
 use wh_or_memory::OrMemory;
+use wh_promise_phrases::{PhraseThing, PromisePhrase, phrase_in, thing_in};
 use wh_rows::JobPattern;
 use wh_table_promises::{Happening, TablePromise};
-use wh_table_text::{number_in, own_job_at, rest, word};
+use wh_table_text::own_job_at;
 use wh_workflow::text_of;
-
-/// What stands before the first colon of a text, or all if there is none.
-fn before_colon(text: &str) -> &str
-    ensures { result.now ≡ before 58 text.now }
-{
-    match text.split_once(':') {
-        Some((first, _)) => first,
-        None => text,
-    }
-}
-
-/// What stands before the first comma of a text, or all if there is none.
-fn before_comma(text: &str) -> &str
-    ensures { result.now ≡ before 44 text.now }
-{
-    match text.split_once(',') {
-        Some((first, _)) => first,
-        None => text,
-    }
-}
-
-/// What follows a space that the text begins with; nothing if it does not.
-fn after_space(text: &str) -> &str
-    ensures { result.now ≡ spaced text.now }
-{
-    if word(text).is_empty() {
-        rest(text)
-    } else {
-        ""
-    }
-}
-
-/// What stands behind the first colon of a text; nothing if there is none.
-fn after_colon(text: &str) -> &str
-    ensures { result.now ≡ after 58 text.now }
-{
-    match text.split_once(':') {
-        Some((_, last)) => last,
-        None => "",
-    }
-}
-
-/// What stands behind the first colon and a space; nothing if there is none.
-fn behind_colon(text: &str) -> &str
-    ensures { result.now ≡ behind 58 text.now }
-{
-    after_space(after_colon(text))
-}
-
-/// What stands behind the first comma of a text; nothing if there is none.
-fn after_comma(text: &str) -> &str
-    ensures { result.now ≡ after 44 text.now }
-{
-    match text.split_once(',') {
-        Some((_, last)) => last,
-        None => "",
-    }
-}
-
-/// What stands behind the first comma and a space; nothing if there is none.
-fn behind_comma(text: &str) -> &str
-    ensures { result.now ≡ behind 44 text.now }
-{
-    after_space(after_comma(text))
-}
-
-/// Whether the text is one word.
-fn is_name(text: &str) -> bool
-    ensures { result ≡ is_name text.now }
-{
-    !text.is_empty() && word(text) == text
-}
 
 /// The jobs that a text names as rows do, if it names some.
 fn job_in(alloc: Global, text: &str) -> Result<Option<JobPattern<Text>>, OutOfMemory>
@@ -94,33 +25,30 @@ fn job_in(alloc: Global, text: &str) -> Result<Option<JobPattern<Text>>, OutOfMe
     }
 }
 
-/// How a run closes, if the text says that.
-fn close_in(text: &str) -> Option<Happening>
-    ensures { result ≡ close_in text.now }
+/// That such a job comes.
+fn job_happening(alloc: Global, text: &str) -> Result<Option<Happening>, OutOfMemory>
+    ensures { IfOk result (λ found. found ≡ job_happening text.now) }
 {
-    if text == "complete" {
-        Some(Happening::Completes)
-    } else if text == "fail" {
-        Some(Happening::Fails)
-    } else if text == "canceled" {
-        Some(Happening::Cancels)
-    } else if text == "continued" {
-        Some(Happening::ContinuesAsNew)
-    } else if text == "close" {
-        Some(Happening::Closes)
-    } else {
-        None
+    match job_in(alloc, text)? {
+        Some(pattern) => Ok(Some(Happening::Comes(pattern))),
+        None => Ok(None),
     }
 }
 
-/// Returns the name that the text is, if it is one word.
-fn name_in(alloc: Global, text: &str) -> Result<Option<Text>, OutOfMemory>
-    ensures { IfOk result (λ name. name ≡ name_in text.now) }
+/// What may happen. `None` if no job is written so.
+fn happening_by(alloc: Global, thing: &PhraseThing<&str>) -> Result<Option<Happening>, OutOfMemory>
+    ensures { IfOk result (λ found. found ≡ happening_by (thing_shown thing.now)) }
 {
-    if is_name(text) {
-        Ok(Some(text_of(alloc, text)?))
-    } else {
-        Ok(None)
+    match thing {
+        PhraseThing::Job(text) => job_happening(alloc, *text),
+        PhraseThing::Activity(name) => Ok(Some(Happening::StartsActivity(text_of(alloc, *name)?))),
+        PhraseThing::Child(name) => Ok(Some(Happening::StartsChild(text_of(alloc, *name)?))),
+        PhraseThing::Send(name) => Ok(Some(Happening::SendsSignal(text_of(alloc, *name)?))),
+        PhraseThing::Complete => Ok(Some(Happening::Completes)),
+        PhraseThing::Fail => Ok(Some(Happening::Fails)),
+        PhraseThing::Canceled => Ok(Some(Happening::Cancels)),
+        PhraseThing::Continued => Ok(Some(Happening::ContinuesAsNew)),
+        PhraseThing::Close => Ok(Some(Happening::Closes)),
     }
 }
 
@@ -129,39 +57,8 @@ fn name_in(alloc: Global, text: &str) -> Result<Option<Text>, OutOfMemory>
 fn happening_in(alloc: Global, text: &str) -> Result<Option<Happening>, OutOfMemory>
     ensures { IfOk result (λ found. found ≡ happening_in text.now) }
 {
-    let verb = word(text);
-    if verb == "activity" {
-        return Ok(name_in(alloc, rest(text))?.map(|name| Happening::StartsActivity(name)));
-    }
-    if verb == "child" {
-        return Ok(name_in(alloc, rest(text))?.map(|name| Happening::StartsChild(name)));
-    }
-    if verb == "send" {
-        return Ok(name_in(alloc, rest(text))?.map(|name| Happening::SendsSignal(name)));
-    }
-    match close_in(text) {
-        Some(close) => Ok(Some(close)),
-        None => match job_in(alloc, text)? {
-            Some(pattern) => Ok(Some(Happening::Comes(pattern))),
-            None => Ok(None),
-        },
-    }
-}
-
-/// `most N WHAT`.
-#[tactic(auto, unfolding(crate::specs::Phrases::at_most_in))]
-fn at_most_in(alloc: Global, text: &str) -> Result<Option<TablePromise>, OutOfMemory>
-    ensures { IfOk result (λ found. found ≡ at_most_in text.now) }
-{
-    if word(text) != "most" {
-        return Ok(None);
-    }
-    let given = rest(text);
-    let Some(most) = number_in(word(given)) else {
-        return Ok(None);
-    };
-    match happening_in(alloc, rest(given))? {
-        Some(what) => Ok(Some(TablePromise::AtMost(most, what))),
+    match thing_in(text) {
+        Some(thing) => happening_by(alloc, &thing),
         None => Ok(None),
     }
 }
@@ -173,46 +70,79 @@ struct Both {
     what: Happening,
 }
 
-/// `FIRST: WHAT`.
-#[tactic(auto, unfolding(crate::specs::Phrases::both_in))]
-fn both_in(alloc: Global, text: &str) -> Result<Option<Both>, OutOfMemory>
-    ensures { IfOk result (λ found. found ≡ both_in text.now) }
+/// What two texts say. `None` if one of them says nothing that may happen.
+fn both_in(alloc: Global, first: &str, what: &str) -> Result<Option<Both>, OutOfMemory>
+    ensures { IfOk result (λ found. found ≡ both_in first.now what.now) }
 {
-    let Some(first) = happening_in(alloc, before_colon(text))? else {
+    let Some(first) = happening_in(alloc, first)? else {
         return Ok(None);
     };
-    match happening_in(alloc, behind_colon(text))? {
+    match happening_in(alloc, what)? {
         Some(what) => Ok(Some(Both { first, what })),
         None => Ok(None),
     }
 }
 
-/// `after FIRST: WHAT`.
-fn pair_in(alloc: Global, text: &str) -> Result<Option<Both>, OutOfMemory>
-    ensures { IfOk result (λ found. found ≡ pair_in text.now) }
+/// That it happens so many times at most.
+fn at_most(alloc: Global, most: u64, what: &str) -> Result<Option<TablePromise>, OutOfMemory>
+    ensures { IfOk result (λ found. found ≡ at_most most what.now) }
 {
-    if word(text) == "after" {
-        both_in(alloc, rest(text))
-    } else {
-        Ok(None)
+    match happening_in(alloc, what)? {
+        Some(what) => Ok(Some(TablePromise::AtMost(most, what))),
+        None => Ok(None),
     }
 }
 
-/// `FIRST, before LAST: WHAT`.
-#[tactic(auto, unfolding(crate::specs::Phrases::between_in))]
-fn between_in(alloc: Global, text: &str) -> Result<Option<TablePromise>, OutOfMemory>
-    ensures { IfOk result (λ found. found ≡ between_in text.now) }
+/// That the second happens only after the first has.
+fn only_after(alloc: Global, first: &str, what: &str) -> Result<Option<TablePromise>, OutOfMemory>
+    ensures { IfOk result (λ found. found ≡ only_after first.now what.now) }
 {
-    let Some(first) = happening_in(alloc, before_comma(text))? else {
+    match both_in(alloc, first, what)? {
+        Some(both) => Ok(Some(TablePromise::OnlyAfter(both.first, both.what))),
+        None => Ok(None),
+    }
+}
+
+/// That the second does not happen once the first has.
+fn never_after(alloc: Global, first: &str, what: &str) -> Result<Option<TablePromise>, OutOfMemory>
+    ensures { IfOk result (λ found. found ≡ never_after first.now what.now) }
+{
+    match both_in(alloc, first, what)? {
+        Some(both) => Ok(Some(TablePromise::NeverAfter(both.first, both.what))),
+        None => Ok(None),
+    }
+}
+
+/// That the third happens between the first and the second.
+fn between(
+    alloc: Global,
+    first: &str,
+    last: &str,
+    what: &str,
+) -> Result<Option<TablePromise>, OutOfMemory>
+    ensures { IfOk result (λ found. found ≡ between first.now last.now what.now) }
+{
+    let Some(first) = happening_in(alloc, first)? else {
         return Ok(None);
     };
-    let second = behind_comma(text);
-    if word(second) != "before" {
-        return Ok(None);
-    }
-    match both_in(alloc, rest(second))? {
+    match both_in(alloc, last, what)? {
         Some(both) => Ok(Some(TablePromise::Between(first, both.first, both.what))),
         None => Ok(None),
+    }
+}
+
+/// The promise about what may happen. `None` if one of the texts says no such thing.
+fn promise_by(
+    alloc: Global,
+    phrase: &PromisePhrase<&str>,
+) -> Result<Option<TablePromise>, OutOfMemory>
+    ensures { IfOk result (λ found. found ≡ promise_by (phrase_shown phrase.now)) }
+{
+    match phrase {
+        PromisePhrase::AtMost(most, what) => at_most(alloc, *most, *what),
+        PromisePhrase::OnlyAfter(first, what) => only_after(alloc, *first, *what),
+        PromisePhrase::NeverAfter(first, what) => never_after(alloc, *first, *what),
+        PromisePhrase::Between(first, last, what) => between(alloc, *first, *last, *what),
     }
 }
 
@@ -221,25 +151,8 @@ fn between_in(alloc: Global, text: &str) -> Result<Option<TablePromise>, OutOfMe
 pub(crate) fn promise_in(alloc: Global, text: &str) -> Result<Option<TablePromise>, OutOfMemory>
     ensures { IfOk result (λ found. found ≡ promise_in text.now) }
 {
-    let verb = word(text);
-    let given = rest(text);
-    if verb == "at" {
-        return at_most_in(alloc, given);
+    match phrase_in(text) {
+        Some(phrase) => promise_by(alloc, &phrase),
+        None => Ok(None),
     }
-    if verb == "after" {
-        return between_in(alloc, given);
-    }
-    if verb == "only" {
-        return match pair_in(alloc, given)? {
-            Some(both) => Ok(Some(TablePromise::OnlyAfter(both.first, both.what))),
-            None => Ok(None),
-        };
-    }
-    if verb == "never" {
-        return match pair_in(alloc, given)? {
-            Some(both) => Ok(Some(TablePromise::NeverAfter(both.first, both.what))),
-            None => Ok(None),
-        };
-    }
-    Ok(None)
 }

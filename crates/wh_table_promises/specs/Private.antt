@@ -1,5 +1,4 @@
 -- What no contract of a public item cites: only those of private functions.
 pub mod Seen
-pub mod Asking
 pub mod Found
 pub mod Told

@@ -1,5 +1,4 @@
 //! The jobs that a search for a path tries.
-use crate::lines::IndexedRow;
 use crate::promise::Happening;
 use crate::watch::WatchTurn;
 use std::alloc::{AllocError, Global};
@@ -7,6 +6,7 @@ use wh_author_tools::job_of;
 use wh_events::{OutOfMemory, Text};
 use wh_row_rules::{covers, text_of};
 use wh_rows::{JobPattern, Naming};
+use wh_table_lines::IndexedRow;
 
 /// A job that a search tries.
 #[derive(Drop)]

@@ -1,10 +1,9 @@
 //! Where a run and a watch may stand together, and where jobs lead.
 ghost use Rattle.std.specs.Prelude.{◌≡◌, ◌≤◌, ◌<◌, ◌^◌, ◌++◌, OnOk, map, option_map};
 ghost use Rattle.wh_rows.specs.Deciding.{next_place, is_ready, job_turns, starts, steps, begun};
-ghost use Rattle.wh_table_promises.specs.Private.Seen.{turn_seen, standing_seen, line_seen, config_seen, stand_by, started, LeadsOn};
+ghost use Rattle.wh_table_lines.specs.Lines.{line_seen};
+ghost use Rattle.wh_table_promises.specs.Private.Seen.{turn_seen, standing_seen, config_seen, stand_by, started, LeadsOn};
 
-use crate::counters::cut_all;
-use crate::lines::IndexedRow;
 use crate::patterns::{may_happen, must_happen};
 use crate::turning::watch_after_commands;
 use crate::watch::{WatchState, WatchTurn, new_standing, watch_after_turn};
@@ -12,6 +11,7 @@ use std::alloc::Global;
 use wh_events::{OutOfMemory, Text};
 use wh_row_rules::{covers, is_among};
 use wh_rows::{Counters, JobPattern, UNCOUNTED, all_hold};
+use wh_table_lines::{IndexedRow, cut_all};
 
 /// Where a run and a watch stand together.
 #[derive(Clone, Copy)]

@@ -5,14 +5,13 @@ ghost use Rattle.wh_rows.specs.Deciding.{case_of};
 ghost use Rattle.wh_rows.specs.Promises.{Promises, watch_of};
 ghost use Rattle.wh_table_promises.specs.Promised.{promise_of};
 ghost use Rattle.wh_table_promises.specs.Ways.{IsRight, IsWay, IsBreach, IsKeptBefore, job_read};
-ghost use Rattle.wh_table_promises.specs.Private.Seen.{turn_seen, line_seen, config_seen};
+ghost use Rattle.wh_table_lines.specs.Lines.{line_seen};
+ghost use Rattle.wh_table_promises.specs.Private.Seen.{turn_seen, config_seen};
 ghost use Rattle.wh_table_promises.specs.Private.Found.{shows_all, is_within_case, LeadsFrom};
 
 use crate::candidates::{Candidate, candidates_of};
 use crate::config::{Rules, initial_configuration, starts};
-use crate::counters::{are_cuts, cuts_of};
-use crate::found::{Found, all_within, are_good, are_known};
-use crate::lines::{lines_of, place};
+use crate::found::{Found, are_good, are_known};
 use crate::promise::TablePromise;
 use crate::search::{Search, SearchEnd, begin_search, search_all, search_way};
 use crate::shortest::keep_from_start;
@@ -22,6 +21,7 @@ use std::alloc::Global;
 use wh_author_tools::job_of;
 use wh_events::{OutOfMemory, Text};
 use wh_row_rules::{Breach, Doubt, OwnedTable, PromiseVerdict, WayStep};
+use wh_table_lines::{all_within, are_cuts, cuts_of, lines_of, place};
 use wh_workflow::Job;
 
 /// The greatest number that the search counts to: what happens at most so often also happens at

@@ -1,15 +1,14 @@
 //! Configurations that were found, and whether they show a promise.
 ghost use Rattle.std.specs.Prelude.{◌≡◌, ◌<◌, ◌^◌, true, IfOk, OnOk, length, map};
-ghost use Rattle.wh_rows.specs.Deciding.{same_counts, covered, each, all_within};
-ghost use Rattle.wh_table_promises.specs.Private.Seen.{turn_seen, line_seen, config_seen};
-ghost use Rattle.wh_table_promises.specs.Private.Found.{is_in, is_good, is_line_within, GoesOn};
+ghost use Rattle.wh_rows.specs.Deciding.{covered, each};
+ghost use Rattle.wh_table_lines.specs.Lines.{line_seen};
+ghost use Rattle.wh_table_promises.specs.Private.Seen.{turn_seen, config_seen};
+ghost use Rattle.wh_table_promises.specs.Private.Found.{is_in, is_good, GoesOn};
 
 use crate::config::{Configuration, Rules, steps};
-use crate::counters::asks_within;
-use crate::lines::IndexedRow;
 use std::alloc::Global;
 use wh_events::OutOfMemory;
-use wh_rows::Counters;
+use wh_table_lines::same_counts;
 
 /// The most configurations that a search looks at.
 pub const MOST_CONFIGURATIONS: usize = 200_000;
@@ -29,13 +28,6 @@ pub(crate) fn none_found(alloc: Global) -> Result<Found, OutOfMemory> {
         configs: Vec::new(alloc),
         slots: vec![in alloc; 0; 2 * MOST_CONFIGURATIONS]?,
     })
-}
-
-/// Whether both are the same numbers.
-fn same_counts(one: Counters, other: Counters) -> bool
-    ensures { result ≡ same_counts one other }
-{
-    (one.a == other.a && one.b == other.b) && (one.c == other.c && one.d == other.d)
 }
 
 /// Whether both stand at the same place.
@@ -170,23 +162,4 @@ pub(crate) fn are_good(
         }
     }
     Ok(true)
-}
-
-/// Whether the state of the row is one of so many, and cut counters tell whether it fits.
-fn is_line_within(many: usize, tops: Counters, line: &IndexedRow) -> bool
-    ensures { result ≡ is_line_within many tops (line_seen line.now) }
-{
-    line.state < many && asks_within(tops, line.row.conditions.get())
-}
-
-/// Whether it is so for each row.
-pub(crate) fn all_within(many: usize, tops: Counters, lines: &[IndexedRow]) -> bool
-    ensures { result ≡ all_within many tops (map line_seen lines.now) }
-{
-    for line in lines {
-        if !is_line_within(many, tops, line) {
-            return false;
-        }
-    }
-    true
 }

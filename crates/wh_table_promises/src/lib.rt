@@ -11,10 +11,8 @@
 
 mod candidates;
 mod config;
-mod counters;
 mod deciding;
 mod found;
-mod lines;
 mod patterns;
 mod promise;
 mod search;

@@ -7,13 +7,13 @@ use crate::config::{
     Configuration, Rules, initial_configuration, is_ready, stand, start_row, steps,
 };
 use crate::found::{Found, MOST_CONFIGURATIONS, add, none_found};
-use crate::lines::IndexedRow;
 use crate::promise::Happening;
 use crate::watch::{WatchState, WatchTurn, watch_after_turn};
 use std::alloc::Global;
 use wh_events::{OutOfMemory, Text};
 use wh_row_rules::covers;
 use wh_rows::JobPattern;
+use wh_table_lines::IndexedRow;
 
 /// How a configuration was reached.
 #[derive(Clone, Copy)]

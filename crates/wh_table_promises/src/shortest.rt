@@ -2,7 +2,8 @@
 //! keep to the budget, one job after another.
 ghost use Rattle.std.specs.Prelude.{◌≡◌, ◌<◌, ◌^◌, true, IfOk, OnOk, map, take, drop};
 ghost use Rattle.wh_rows.specs.Deciding.{each};
-ghost use Rattle.wh_table_promises.specs.Private.Seen.{turn_seen, line_seen, config_seen};
+ghost use Rattle.wh_table_lines.specs.Lines.{line_seen};
+ghost use Rattle.wh_table_promises.specs.Private.Seen.{turn_seen, config_seen};
 ghost use Rattle.wh_table_promises.specs.Private.Found.{is_good, GoesOn, Leads, LeadsFrom};
 
 use crate::config::{Configuration, Rules, initial_configuration, starts, steps};

@@ -1,6 +1,6 @@
 //! A path that breaks a promise, followed job by job.
 ghost use Rattle.std.specs.Prelude.{◌≡◌, ◌≤◌, ◌<◌, ◌+◌, ◌-◌, ◌^◌, true, IfOk, IfSome, OnOk, length, map};
-ghost use Rattle.wh_rows.specs.Rows.{fits, after, initial, seen_by, rows_give, after_rows};
+ghost use Rattle.wh_rows.specs.Rows.{fits, after, initial};
 ghost use Rattle.wh_row_rules.specs.Broken.{definition};
 ghost use Rattle.wh_rows.specs.Courses.{begins, goes_on, comes, is_given, gave};
 ghost use Rattle.wh_rows.specs.Watches.{watched};
@@ -16,8 +16,9 @@ use std::alloc::{AllocError, Global};
 use wh_author_tools::commands_text;
 use wh_events::{Items, OutOfMemory, Text};
 use wh_row_rules::{OwnedRow, OwnedTable, WayStep};
-use wh_rows::{RowsState, StateName, UNCOUNTED, all_hold, answer, is_for_job, take_start};
-use wh_workflow::{Command, Job, no_payloads, text_of};
+use wh_rows::{RowsState, all_hold, is_for_job};
+use wh_table_lines::{answer_job, initial_run, see_job};
+use wh_workflow::{Command, Job};
 
 /// Whether this happens by the job that comes.
 fn comes(what: &Happening, state: &RowsState, job: &Job) -> bool
@@ -123,20 +124,6 @@ fn begins(jobs: &[Job]) -> bool
     }
 }
 
-/// Where a run of a table begins.
-fn first_run(alloc: Global, table: &OwnedTable) -> Result<RowsState, OutOfMemory>
-    ensures { IfOk result (λ run. run ≡ initial (definition table.now)) }
-{
-    Ok(RowsState {
-        at: StateName::from_text(table.first.try_copy()?),
-        closed: false,
-        name: text_of(alloc, "")?,
-        input: no_payloads(alloc),
-        kept: no_payloads(alloc),
-        counts: UNCOUNTED,
-    })
-}
-
 /// What a job is given.
 #[derive(Drop)]
 pub(crate) struct JobReply {
@@ -153,18 +140,6 @@ struct Followed {
     run: RowsState,
     /// The watch.
     watch: WatchState,
-}
-
-/// Lets a run see a job.
-fn see_job(
-    alloc: Global,
-    table: &OwnedTable,
-    run: &mut RowsState,
-    job: &Job,
-) -> Result<(), OutOfMemory>
-    ensures { OnOk result (run.new ≡ seen_by (definition table.now) run.old job.now) }
-{
-    take_start(alloc, &table.name, run, job)
 }
 
 /// Whether a row fits.
@@ -187,19 +162,6 @@ fn row_of(rows: &[OwnedRow], run: &RowsState, job: &Job) -> Option<usize>
         }
     }
     None
-}
-
-/// The commands that rows give to a job that the run has seen, and what it leaves of the run.
-fn answer_job(
-    alloc: Global,
-    table: &OwnedTable,
-    run: &mut RowsState,
-    job: &Job,
-) -> Result<Vec<Command>, OutOfMemory>
-    ensures commands { IfOk result (λ given. given.items ≡ rows_give table.now.rows run.old job.now) }
-    ensures state { OnOk result (run.new ≡ after_rows table.now.rows table.now.bounds run.old job.now) }
-{
-    answer(alloc, table.rows.get(), table.bounds, run, job)
 }
 
 /// The text of commands.
@@ -255,7 +217,7 @@ pub(crate) fn follow_jobs(
         return Ok(None);
     }
     let mut now = Followed {
-        run: first_run(alloc, table)?,
+        run: initial_run(alloc, table)?,
         watch: new_standing(),
     };
     let mut all = Vec::new(alloc);

@@ -31,10 +31,6 @@ LeadsFrom tops turns budget rows first many =
     (all : List Config) × (each (is_in all) (starts tops turns rows (begun first)) ≡ true)
     × Leads tops turns budget rows many all
 
--- the state of the row is one of so many, and cut counters tell whether it fits
-abbrev pub is_line_within : ℕ → Counters → Line → Bool
-is_line_within many tops row = ltb row.state many && asks_within tops row.conditions
-
 -- no counter is cut past its bound, and cut counters tell of each row whether it fits
 abbrev pub is_within_case : Case → Counters → Bool
 is_within_case it tops = are_cuts it.bounds tops && all_within it.many tops it.rows

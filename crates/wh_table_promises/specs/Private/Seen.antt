@@ -8,7 +8,6 @@ use Rattle.wh_rows.specs.Watches.{Turn, Standing, turned}
 use Rattle.wh_rows.specs.Deciding.{Line, Config, is_by, is_ready, stays, led, leads}
 use Rattle.wh_table_promises.specs.declared.watch.WatchTurn.{WatchTurn as TurnHeld}
 use Rattle.wh_table_promises.specs.declared.watch.WatchState.{WatchState as StandingHeld}
-use Rattle.wh_table_promises.specs.declared.lines.IndexedRow.{IndexedRow as LineHeld}
 use Rattle.wh_table_promises.specs.declared.config.Configuration.{Configuration as ConfigHeld}
 use Rattle.wh_table_promises.specs.Promised.{happening_of}
 
@@ -32,19 +31,6 @@ turns_by turn one at = nat_eq turn.from at && is_by turn.what one
 -- where a watch stands after a command of a row
 abbrev pub turned_by : List Turn → CommandTemplate → Standing → Standing
 turned_by turns one now = turned turns (λ what. is_by what one) now
-
--- a row with numbers in place of states
-abbrev pub line_seen : LineHeld → Line
-line_seen line = record {
-  any = line.any;
-  state = line.state;
-  job = line.row.now.job;
-  conditions = line.row.now.conditions;
-  gives = line.row.now.gives;
-  effects = line.row.now.effects;
-  closes = line.closes;
-  next = line.next;
-}
 
 -- where a run and a watch stand together
 abbrev pub config_seen : ConfigHeld → Config

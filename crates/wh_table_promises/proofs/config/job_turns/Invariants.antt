@@ -1,7 +1,8 @@
 use Rattle.std.proofs.Common.{◌≡◌, ◌++◌, drop, map}
 use Rattle.std.specs.Prelude.{option_map}
 use Rattle.wh_rows.specs.Deciding.{job_turns}
-use Rattle.wh_table_promises.specs.Private.Seen.{turn_seen, standing_seen, line_seen, config_seen, stand_by}
+use Rattle.wh_table_lines.specs.Lines.{line_seen}
+use Rattle.wh_table_promises.specs.Private.Seen.{turn_seen, standing_seen, config_seen, stand_by}
 use Rattle.wh_table_promises.proofs.config.job_turns.Given as goal
 
 -- what is added so far and what the rest adds are all

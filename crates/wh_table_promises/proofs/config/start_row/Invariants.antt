@@ -1,5 +1,6 @@
 use Rattle.std.proofs.Common.{◌≡◌, drop, map}
-use Rattle.wh_table_promises.specs.Private.Seen.{line_seen, config_seen, started}
+use Rattle.wh_table_lines.specs.Lines.{line_seen}
+use Rattle.wh_table_promises.specs.Private.Seen.{config_seen, started}
 use Rattle.wh_table_promises.proofs.config.start_row.Given as goal
 
 -- no row so far counts

@@ -1,5 +1,6 @@
 use Rattle.std.proofs.Common.{sym, ◌∙◌, ap, map}
-use Rattle.wh_table_promises.specs.Private.Seen.{turn_seen, line_seen, config_seen}
+use Rattle.wh_table_lines.specs.Lines.{line_seen}
+use Rattle.wh_table_promises.specs.Private.Seen.{turn_seen, config_seen}
 use Rattle.wh_table_promises.proofs.Leading.{starts_is}
 use Rattle.wh_table_promises.proofs.config.starts.Goals as goal
 

@@ -1,6 +1,7 @@
 use Rattle.std.proofs.Common.{◌≡◌, ◌++◌, drop, map}
 use Rattle.wh_rows.specs.Deciding.{leads, steps}
-use Rattle.wh_table_promises.specs.Private.Seen.{turn_seen, line_seen, config_seen}
+use Rattle.wh_table_lines.specs.Lines.{line_seen}
+use Rattle.wh_table_promises.specs.Private.Seen.{turn_seen, config_seen}
 use Rattle.wh_table_promises.proofs.config.steps.Given as goal
 
 -- what is added so far and what the rest adds are all

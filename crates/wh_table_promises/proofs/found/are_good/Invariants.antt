@@ -1,7 +1,8 @@
 use Rattle.std.proofs.Common.{◌≡◌, true, drop, map}
 use Rattle.wh_rows.specs.Deciding.{each}
 use Rattle.wh_table_promises.specs.Private.Found.{is_good}
-use Rattle.wh_table_promises.specs.Private.Seen.{turn_seen, line_seen, config_seen}
+use Rattle.wh_table_lines.specs.Lines.{line_seen}
+use Rattle.wh_table_promises.specs.Private.Seen.{turn_seen, config_seen}
 use Rattle.wh_table_promises.proofs.found.are_good.Given as goal
 
 -- all are good if the rest is

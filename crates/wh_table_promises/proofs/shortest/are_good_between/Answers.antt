@@ -2,7 +2,8 @@ use Rattle.std.proofs.Common.{◌≡◌, true, List, map, take, drop, subst}
 use Rattle.std.specs.Prelude.{IfOk}
 use Rattle.wh_rows.specs.Deciding.{Config, each}
 use Rattle.wh_table_promises.specs.declared.config.Configuration.{Configuration as ConfigHeld}
-use Rattle.wh_table_promises.specs.Private.Seen.{turn_seen, line_seen, config_seen}
+use Rattle.wh_table_lines.specs.Lines.{line_seen}
+use Rattle.wh_table_promises.specs.Private.Seen.{turn_seen, config_seen}
 use Rattle.wh_table_promises.specs.Private.Found.{is_good}
 use Rattle.wh_table_promises.proofs.Fewer.{between}
 use Rattle.wh_table_promises.proofs.shortest.are_good_between.Goals as goal

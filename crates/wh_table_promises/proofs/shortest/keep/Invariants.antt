@@ -1,6 +1,7 @@
 use Rattle.std.proofs.Common.{◌≡◌, ◌-◌, true, map, take}
 use Rattle.wh_rows.specs.Deciding.{each}
-use Rattle.wh_table_promises.specs.Private.Seen.{turn_seen, line_seen, config_seen}
+use Rattle.wh_table_lines.specs.Lines.{line_seen}
+use Rattle.wh_table_promises.specs.Private.Seen.{turn_seen, config_seen}
 use Rattle.wh_table_promises.specs.Private.Found.{is_good, Leads}
 use Rattle.wh_table_promises.proofs.shortest.keep.Given as goal
 

@@ -1,0 +1,14 @@
+pub mod Own
+pub mod Pushed
+pub mod Matched
+pub mod Recorded
+pub mod Taking
+pub mod Activated
+pub mod Told
+pub mod Coming
+pub mod Naming
+pub mod Histories
+pub mod Brought
+pub mod Carried
+pub mod Alike
+pub mod Followed

@@ -1,0 +1,5 @@
+pub mod Records
+pub mod Tellings
+pub mod NextTasks
+pub mod NeverSticks
+pub mod BroughtTables

@@ -1,0 +1,4 @@
+pub mod Hearing
+pub mod Sound
+pub mod Rules
+pub mod Steps

@@ -1,0 +1,7 @@
+mod Changing
+mod Hearing
+mod NextTasks
+mod Showing
+mod Starting
+mod Stating
+mod Following

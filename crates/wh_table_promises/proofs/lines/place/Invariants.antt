@@ -1,8 +1,0 @@
-use Rattle.std.proofs.Common.{◌≡◌, ◌+◌, drop}
-use Rattle.wh_rows.specs.Deciding.{place}
-use Rattle.wh_table_promises.proofs.lines.place.Given as goal
-
--- no row passed so far is for the state
-abbrev pub invariant-loop-index : goal.invariant-loop-index
-invariant-loop-index l =
-    l.index + place l.name (drop l.index l.rows) ≡ place l.name l.rows
