@@ -20,3 +20,7 @@ finding_at row words name = record {
   row = Some row;
   text = codes "row " ++ (decimal row ++ (codes ": " ++ (words ++ name)));
 }
+
+-- the finding about the whole table: these words, and a name
+abbrev pub finding_about : List ℕ → List ℕ → TableFinding
+finding_about words name = record { row = None; text = words ++ name }

@@ -1,5 +1,13 @@
 pub mod Findings
+pub mod Causes
+pub mod Names
+pub mod NewRuns
+pub mod Signals
 pub mod Warnings
+pub mod Counters
+pub mod Promised
+pub mod Allowed
+pub mod Stuck
 pub mod Checks
 pub mod Texts
 pub mod PromiseTexts

@@ -1,5 +1,5 @@
 -- What is written of promises.
-use Rattle.std.specs.Prelude.{ℕ, ◌+◌, Bool, true, false, List, [], ◌∷◌, ◌++◌, length, nat_eq, codes, decimal, if◌then◌else◌}
+use Rattle.std.specs.Prelude.{ℕ, ◌+◌, Bool, true, false, List, [], ◌∷◌, ◌++◌, ◌-◌, length, take, leb, nat_eq, codes, decimal, if◌then◌else◌}
 use Rattle.std.specs.List.{flat_map}
 use Rattle.wh_tester.specs.Json.{escaped}
 use Rattle.wh_tester.specs.Report.{shown}
@@ -21,10 +21,22 @@ use Rattle.wh_row_rules.specs.declared.promises.PromiseFindings.TheVariants as f
 abbrev pub later_jobs : List WayStep → List ℕ
 later_jobs steps = flat_map (λ step. codes "; " ++ step.job) steps
 
--- the jobs of a path, with a semicolon between each and the next
+-- the steps of a path that a text shows
+abbrev pub shown_steps : List WayStep → List WayStep
+shown_steps way = take 100 way
+
+-- the jobs of steps, with a semicolon between each and the next
+abbrev pub jobs_in : List WayStep → List ℕ
+jobs_in [] = []
+jobs_in (first ∷ others) = first.job ++ later_jobs others
+
+-- how many of so many steps are not shown, behind those that are; nothing if all are
+abbrev pub more_jobs : ℕ → List ℕ
+more_jobs steps = if leb steps 100 then [] else codes "; and " ++ (decimal (steps - 100) ++ codes " more")
+
+-- the jobs of a path that a text shows, and how many more there are
 abbrev pub jobs_text : List WayStep → List ℕ
-jobs_text [] = []
-jobs_text (first ∷ others) = first.job ++ later_jobs others
+jobs_text way = jobs_in (shown_steps way) ++ more_jobs (length way)
 
 -- why a promise is not decided
 abbrev pub doubt_text : Doubt → List ℕ
@@ -47,11 +59,11 @@ abbrev pub outcome_text : PhraseFinding → List ℕ
 outcome_text outcomes.NoPromise = codes "no promise is written so"
 outcome_text (outcomes.Decided verdict) = verdict_text verdict
 
--- the line of a promise of this number
-abbrev pub promise_line : ℕ → PromiseFinding → List ℕ
-promise_line number finding =
-    codes "promise " ++ (decimal number ++ (codes ", " ++ (shown finding.phrase ++ (codes ": "
-    ++ (outcome_text finding.outcome ++ codes "\n")))))
+-- the line of a promise of this number in the table of a file
+abbrev pub promise_line : List ℕ → ℕ → PromiseFinding → List ℕ
+promise_line name number finding =
+    shown name ++ (codes ": promise " ++ (decimal number ++ (codes ", " ++ (shown finding.phrase ++ (codes ": "
+    ++ (outcome_text finding.outcome ++ codes "\n"))))))
 
 -- a line of a scenario
 abbrev pub step_line : WayStep → List ℕ
@@ -61,19 +73,28 @@ step_line step = codes "  " ++ (step.job ++ (codes " => " ++ (step.gives ++ code
 abbrev pub step_lines : List WayStep → List ℕ
 step_lines way = flat_map step_line way
 
+-- the line that says how many of so many steps are not shown; nothing if all are
+abbrev pub more_line : ℕ → List ℕ
+more_line steps =
+    if leb steps 100 then [] else codes "  and " ++ (decimal (steps - 100) ++ codes " more, which --json lists\n")
+
+-- the lines of a scenario that a text shows, and how many more there are
+abbrev pub scenario_lines : List WayStep → List ℕ
+scenario_lines way = step_lines (shown_steps way) ++ more_line (length way)
+
 -- the scenario below the line of a promise, if it is broken
 abbrev pub way_lines : PhraseFinding → List ℕ
-way_lines (outcomes.Decided (verdicts.Broken breach)) = step_lines breach.way.items
+way_lines (outcomes.Decided (verdicts.Broken breach)) = scenario_lines breach.way.items
 way_lines _ = []
 
 -- the lines of a promise
-abbrev pub promise_lines : ℕ → PromiseFinding → List ℕ
-promise_lines number finding = promise_line number finding ++ way_lines finding.outcome
+abbrev pub promise_lines : List ℕ → ℕ → PromiseFinding → List ℕ
+promise_lines name number finding = promise_line name number finding ++ way_lines finding.outcome
 
 -- the lines of promises, of which the first has this number
-abbrev pub each_text : ℕ → List PromiseFinding → List ℕ
-each_text number [] = []
-each_text number (finding ∷ list) = promise_lines number finding ++ each_text (number + 1) list
+abbrev pub each_text : List ℕ → ℕ → List PromiseFinding → List ℕ
+each_text name number [] = []
+each_text name number (finding ∷ list) = promise_lines name number finding ++ each_text name (number + 1) list
 
 -- why no promise of a table is read; nothing if they are a list
 abbrev pub list_words : PromiseFindings → List ℕ
@@ -81,10 +102,14 @@ list_words found.NoPhrases = codes "they are neither a text nor a list of texts"
 list_words found.TooMany = codes "there are more than 50"
 list_words (found.Each list) = []
 
--- what is found of the promises of a table
-abbrev pub findings_text : PromiseFindings → List ℕ
-findings_text (found.Each list) = each_text 1 list
-findings_text findings = codes "promises: " ++ (list_words findings ++ codes "\n")
+-- the line that says why no promise of the table in a file is read
+abbrev pub list_line : List ℕ → PromiseFindings → List ℕ
+list_line name findings = shown name ++ (codes ": promises: " ++ (list_words findings ++ codes "\n"))
+
+-- what is found of the promises of the table in a file
+abbrev pub findings_text : List ℕ → PromiseFindings → List ℕ
+findings_text name (found.Each list) = each_text name 1 list
+findings_text name findings = list_line name findings
 
 -- ---- On a page
 

@@ -1,5 +1,5 @@
 -- The report of tables in files.
-use Rattle.std.specs.Prelude.{ℕ, List, [], ◌∷◌, ◌++◌, length, nat_eq, count_by, codes, decimal, Bool, Option, Some, None, if◌then◌else◌}
+use Rattle.std.specs.Prelude.{ℕ, List, [], ◌∷◌, ◌++◌, length, nat_eq, count_by, codes, decimal, Option, Some, None, if◌then◌else◌}
 use Rattle.std.specs.List.{flat_map}
 use Rattle.wh_console.specs.declared.format.Format.{Format}
 use Rattle.wh_console.specs.declared.format.Format.TheVariants as formats
@@ -36,7 +36,8 @@ verdict_lines own = if nat_eq (length own.faults) 0 then rows_line own else find
 -- the lines of a file
 abbrev pub checked_text : TableCheck → List ℕ
 checked_text own =
-    (verdict_lines own ++ finding_lines own.name (codes "warning, ") own.warnings) ++ findings_text own.promises
+    (verdict_lines own ++ finding_lines own.name (codes "warning, ") own.warnings)
+    ++ findings_text own.name own.promises
 
 -- ---- As JSON
 

@@ -3,12 +3,15 @@ use Rattle.std.specs.Prelude.{ℕ, ◌+◌, Bool, true, false, not, ◌&&◌, �
 use Rattle.std.specs.List.{flat_map}
 use Rattle.wh_rows.specs.declared.row.JobPattern.TheVariants as patterns
 use Rattle.wh_rows.specs.declared.row.CommandTemplate.TheVariants as templates
-use Rattle.wh_rows.specs.Tables.{JobPattern, CommandTemplate, Row}
+use Rattle.wh_rows.specs.Tables.{JobPattern, CommandTemplate, Naming, Row}
 use Rattle.wh_rows.specs.Rows.{some_closes}
 use Rattle.wh_rows.specs.Rules.{has_state}
 use Rattle.wh_table_text.specs.Numbered.{numbered}
 use Rattle.wh_table_check.specs.declared.finding.TableFinding.{TableFinding}
 use Rattle.wh_table_check.specs.Findings.{finding_at}
+use Rattle.wh_table_check.specs.Names.{nameless}
+use Rattle.wh_table_check.specs.Signals.{dropped}
+use Rattle.wh_table_check.specs.NewRuns.{tableless}
 
 -- ---- What a row opens
 
@@ -85,10 +88,17 @@ stuck place rows row =
 
 -- ---- All of them
 
--- the warnings for a row
-abbrev pub row_warnings : List Row → ℕ → Row → List TableFinding
-row_warnings rows place row = stuck place rows row ++ flat_map (unawaited (place + 1) rows) row.gives
+-- the warnings for a command of the row of this number
+abbrev pub command_warnings : ℕ → List Row → CommandTemplate → List TableFinding
+command_warnings number rows template = unawaited number rows template ++ tableless number template
 
--- the warnings for the rows of a table
-abbrev pub warnings : List Row → List TableFinding
-warnings rows = numbered (row_warnings rows) 0 rows
+-- the warnings for a row; so many rows come before it
+abbrev pub row_warnings : Naming → List Row → ℕ → Row → List TableFinding
+row_warnings naming rows place row =
+    stuck place rows row
+    ++ (dropped place rows row
+    ++ (nameless naming (place + 1) row ++ flat_map (command_warnings (place + 1) rows) row.gives))
+
+-- the warnings for the rows of a table, whose runs are named so
+abbrev pub rows_warnings : Naming → List Row → List TableFinding
+rows_warnings naming rows = numbered (row_warnings naming rows) 0 rows

@@ -1,6 +1,6 @@
 //! Faults and warnings of a table.
-ghost use Rattle.std.specs.Prelude.{◌≡◌, IfOk, map};
-ghost use Rattle.wh_table_check.specs.Findings.{row_of, fault_finding, finding_at};
+ghost use Rattle.std.specs.Prelude.{◌≡◌, IfOk};
+ghost use Rattle.wh_table_check.specs.Findings.{row_of, fault_finding, finding_at, finding_about};
 
 use std::alloc::Global;
 use wh_events::{OutOfMemory, Text};
@@ -26,28 +26,13 @@ fn row_of(fault: TableFault) -> Option<u64>
 }
 
 /// Returns a fault of a table, as a finding.
-fn fault_finding(alloc: Global, fault: TableFault) -> Result<TableFinding, OutOfMemory>
+pub(crate) fn fault_finding(alloc: Global, fault: TableFault) -> Result<TableFinding, OutOfMemory>
     ensures { IfOk result (λ finding. finding ≡ fault_finding fault) }
 {
     Ok(TableFinding {
         row: row_of(fault),
         text: fault_text(alloc, fault)?,
     })
-}
-
-/// Returns the faults of a table, as findings.
-pub(crate) fn fault_findings(
-    alloc: Global,
-    faults: &[TableFault],
-) -> Result<Vec<TableFinding>, OutOfMemory>
-    ensures { IfOk result (λ findings. findings.items ≡ map fault_finding faults.now) }
-{
-    let mut findings = Vec::new(alloc);
-    for fault in faults {
-        let finding = fault_finding(alloc, *fault)?;
-        findings.push(finding)?;
-    }
-    Ok(findings)
 }
 
 /// Returns the finding about the row of this number: these words, and a name in that row.
@@ -62,5 +47,19 @@ pub(crate) fn finding_at(
     Ok(TableFinding {
         row: Some(row),
         text: Text::new(format!(in alloc; "row {row}: {words}{name}")?),
+    })
+}
+
+/// Returns the finding about the whole table: these words, and a name.
+pub(crate) fn finding_about(
+    alloc: Global,
+    words: &str,
+    name: &str,
+) -> Result<TableFinding, OutOfMemory>
+    ensures { IfOk result (λ finding. finding ≡ finding_about words.now name.now) }
+{
+    Ok(TableFinding {
+        row: None,
+        text: Text::new(format!(in alloc; "{words}{name}")?),
     })
 }

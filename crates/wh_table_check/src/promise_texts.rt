@@ -1,7 +1,7 @@
 //! What is found of promises, as text and as JSON.
-ghost use Rattle.std.specs.Prelude.{◌≡◌, IfOk, string_bytes};
-ghost use Rattle.wh_table_check.specs.PromiseTexts.{later_jobs, jobs_text, doubt_text, broken_text, verdict_text, outcome_text, promise_line};
-ghost use Rattle.wh_table_check.specs.PromiseTexts.{step_line, step_lines, way_lines, promise_lines, each_text, findings_text};
+ghost use Rattle.std.specs.Prelude.{◌≡◌, IfOk, length, string_bytes};
+ghost use Rattle.wh_table_check.specs.PromiseTexts.{later_jobs, shown_steps, jobs_in, more_jobs, jobs_text, doubt_text, broken_text, verdict_text, outcome_text, promise_line};
+ghost use Rattle.wh_table_check.specs.PromiseTexts.{step_line, step_lines, more_line, scenario_lines, way_lines, promise_lines, each_text, list_line, findings_text};
 ghost use Rattle.wh_table_check.specs.PromiseTexts.{breach_detail, outcome_detail, list_words, has_none, promises_member};
 ghost use Rattle.wh_table_check.specs.PromiseTexts.{step_json, later_step, later_steps, steps_json, shortest_json};
 ghost use Rattle.wh_table_check.specs.PromiseTexts.{outcome_word, breach_members, detail_members, outcome_members};
@@ -12,6 +12,9 @@ use wh_row_rules::{
     Breach, Doubt, PhraseFinding, PromiseFinding, PromiseFindings, PromiseVerdict, WayStep,
 };
 use wh_tester::{EscapedName, Shown};
+
+/// The most steps of a path that a text shows.
+const MOST_STEPS: usize = 100;
 
 /// The jobs of steps, with a semicolon in front of each.
 fn later_jobs(alloc: Global, steps: &[WayStep]) -> Result<String, AllocError>
@@ -25,9 +28,20 @@ fn later_jobs(alloc: Global, steps: &[WayStep]) -> Result<String, AllocError>
     Ok(text)
 }
 
-/// The jobs of a path, with a semicolon between each and the next.
-fn jobs_text(alloc: Global, way: &[WayStep]) -> Result<String, AllocError>
-    ensures { IfOk result (λ text. string_bytes text ≡ jobs_text way.now) }
+/// The steps that a text shows of a path.
+fn shown_steps(way: &[WayStep]) -> &[WayStep]
+    ensures { result.now ≡ shown_steps way.now }
+{
+    if way.len() <= MOST_STEPS {
+        way
+    } else {
+        &way[..MOST_STEPS]
+    }
+}
+
+/// The jobs of the steps of a path, with a semicolon between each and the next.
+fn jobs_in(alloc: Global, way: &[WayStep]) -> Result<String, AllocError>
+    ensures { IfOk result (λ text. string_bytes text ≡ jobs_in way.now) }
 {
     let [first, others @ ..] = way else {
         return Ok(String::new(alloc));
@@ -35,6 +49,26 @@ fn jobs_text(alloc: Global, way: &[WayStep]) -> Result<String, AllocError>
     let job = first.job.get();
     let later = later_jobs(alloc, others)?;
     format!(in alloc; "{job}{later}")
+}
+
+/// How many steps are not shown, behind those that are; nothing if all are.
+fn more_jobs(alloc: Global, way: &[WayStep]) -> Result<String, AllocError>
+    ensures { IfOk result (λ text. string_bytes text ≡ more_jobs (length way.now)) }
+{
+    if way.len() <= MOST_STEPS {
+        return Ok(String::new(alloc));
+    }
+    let more = way.len() - MOST_STEPS;
+    format!(in alloc; "; and {more} more")
+}
+
+/// The jobs of a path that a text shows, and how many more there are.
+fn jobs_text(alloc: Global, way: &[WayStep]) -> Result<String, AllocError>
+    ensures { IfOk result (λ text. string_bytes text ≡ jobs_text way.now) }
+{
+    let jobs = jobs_in(alloc, shown_steps(way))?;
+    let more = more_jobs(alloc, way)?;
+    format!(in alloc; "{jobs}{more}")
 }
 
 /// Why a promise is not decided.
@@ -86,17 +120,19 @@ fn outcome_text(alloc: Global, outcome: &PhraseFinding) -> Result<String, AllocE
     }
 }
 
-/// The line of a promise of this number.
+/// The line of a promise of this number in the table of a file.
 fn promise_line(
     alloc: Global,
+    name: &str,
     number: usize,
     finding: &PromiseFinding,
 ) -> Result<String, AllocError>
-    ensures { IfOk result (λ text. string_bytes text ≡ promise_line number finding.now) }
+    ensures { IfOk result (λ text. string_bytes text ≡ promise_line name.now number finding.now) }
 {
+    let name = Shown(name);
     let phrase = Shown(finding.phrase.get());
     let outcome = outcome_text(alloc, &finding.outcome)?;
-    format!(in alloc; "promise {number}, {phrase}: {outcome}\n")
+    format!(in alloc; "{name}: promise {number}, {phrase}: {outcome}\n")
 }
 
 /// A line of a scenario.
@@ -120,12 +156,32 @@ fn step_lines(alloc: Global, way: &[WayStep]) -> Result<String, AllocError>
     Ok(text)
 }
 
+/// The line that says how many steps are not shown; nothing if all are.
+fn more_line(alloc: Global, way: &[WayStep]) -> Result<String, AllocError>
+    ensures { IfOk result (λ text. string_bytes text ≡ more_line (length way.now)) }
+{
+    if way.len() <= MOST_STEPS {
+        return Ok(String::new(alloc));
+    }
+    let more = way.len() - MOST_STEPS;
+    format!(in alloc; "  and {more} more, which --json lists\n")
+}
+
+/// The lines of a scenario that a text shows, and how many more there are.
+fn scenario_lines(alloc: Global, way: &[WayStep]) -> Result<String, AllocError>
+    ensures { IfOk result (λ text. string_bytes text ≡ scenario_lines way.now) }
+{
+    let lines = step_lines(alloc, shown_steps(way))?;
+    let more = more_line(alloc, way)?;
+    format!(in alloc; "{lines}{more}")
+}
+
 /// The scenario below the line of a promise, if it is broken.
 fn way_lines(alloc: Global, outcome: &PhraseFinding) -> Result<String, AllocError>
     ensures { IfOk result (λ text. string_bytes text ≡ way_lines outcome.now) }
 {
     match outcome {
-        PhraseFinding::Decided(PromiseVerdict::Broken(breach)) => step_lines(
+        PhraseFinding::Decided(PromiseVerdict::Broken(breach)) => scenario_lines(
             alloc,
             breach.way.as_slice(),
         ),
@@ -136,23 +192,24 @@ fn way_lines(alloc: Global, outcome: &PhraseFinding) -> Result<String, AllocErro
 /// The lines of a promise.
 fn promise_lines(
     alloc: Global,
+    name: &str,
     number: usize,
     finding: &PromiseFinding,
 ) -> Result<String, AllocError>
-    ensures { IfOk result (λ text. string_bytes text ≡ promise_lines number finding.now) }
+    ensures { IfOk result (λ text. string_bytes text ≡ promise_lines name.now number finding.now) }
 {
-    let line = promise_line(alloc, number, finding)?;
+    let line = promise_line(alloc, name, number, finding)?;
     let way = way_lines(alloc, &finding.outcome)?;
     format!(in alloc; "{line}{way}")
 }
 
 /// The lines of promises.
-fn each_text(alloc: Global, list: &[PromiseFinding]) -> Result<String, AllocError>
-    ensures { IfOk result (λ text. string_bytes text ≡ each_text 1 list.now) }
+fn each_text(alloc: Global, name: &str, list: &[PromiseFinding]) -> Result<String, AllocError>
+    ensures { IfOk result (λ text. string_bytes text ≡ each_text name.now 1 list.now) }
 {
     let mut text = String::new(alloc);
     for (index, finding) in list.iter().enumerate() {
-        let lines = promise_lines(alloc, index + 1, finding)?;
+        let lines = promise_lines(alloc, name, index + 1, finding)?;
         text.push_str(lines.as_str())?;
     }
     Ok(text)
@@ -170,18 +227,29 @@ pub fn list_words(found: &PromiseFindings) -> &'static str
     }
 }
 
-/// What is found of the promises of a table, as text: a line for each, and below a broken one a
-/// scenario that breaks it. If a shorter one may break it too, the line says so. `AllocError`
-/// where there was no memory for it.
-pub fn findings_text(alloc: Global, found: &PromiseFindings) -> Result<String, AllocError>
-    ensures { IfOk result (λ text. string_bytes text ≡ findings_text found.now) }
+/// Returns the line that says why no promise of the table in a file is read.
+fn list_line(alloc: Global, name: &str, found: &PromiseFindings) -> Result<String, AllocError>
+    ensures { IfOk result (λ text. string_bytes text ≡ list_line name.now found.now) }
+{
+    let name = Shown(name);
+    let words = list_words(found);
+    format!(in alloc; "{name}: promises: {words}\n")
+}
+
+/// What is found of the promises of the table in a file of this name, as text: a line for each,
+/// which begins with the name, and below a broken one a scenario that breaks it. If a shorter one
+/// may break it too, the line says so. Of a scenario of more than 100 jobs the first 100 are shown.
+/// `AllocError` where there was no memory for it.
+pub fn findings_text(
+    alloc: Global,
+    name: &str,
+    found: &PromiseFindings,
+) -> Result<String, AllocError>
+    ensures { IfOk result (λ text. string_bytes text ≡ findings_text name.now found.now) }
 {
     match found {
-        PromiseFindings::Each(list) => each_text(alloc, list.get()),
-        _ => {
-            let words = list_words(found);
-            format!(in alloc; "promises: {words}\n")
-        }
+        PromiseFindings::Each(list) => each_text(alloc, name, list.get()),
+        _ => list_line(alloc, name, found),
     }
 }
 

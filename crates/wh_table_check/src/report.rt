@@ -63,10 +63,10 @@ fn report_as(alloc: Global, files: &[TableCheck], format: Format) -> Result<Stri
 
 /// Writes the report of these files. As text, a good table has the line `NAME: ok, N rows`, with
 /// `fault` instead of `ok` if it breaks no rule but not each of its promises is kept; a table that
-/// breaks rules has a line `NAME: FAULT` for each fault. Then come a line `NAME: warning, WARNING`
-/// for each warning, and a line for each promise, `promise N, PHRASE: VERDICT`, with the lines of
-/// a scenario below a broken one, or one line `promises: WHY` if they can't be read; at the end
-/// the number of files and of good ones.
+/// breaks rules has a line `NAME: FAULT` for each fault that does not follow from an earlier one.
+/// Then come a line `NAME: warning, WARNING` for each warning, and a line for each promise,
+/// `NAME: promise N, PHRASE: VERDICT`, with the lines of a scenario below a broken one, or one line
+/// `NAME: promises: WHY` if they can't be read; at the end the number of files and of good ones.
 ///
 /// As JSON (RFC 8259), each file has an object on a line, with `file`, `verdict` (`ok` or `fault`),
 /// `rows`, `faults` and `warnings`, which are lists of objects with `text` and, if it is about a

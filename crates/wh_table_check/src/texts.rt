@@ -87,7 +87,7 @@ fn checked_text(alloc: Global, own: &TableCheck) -> Result<String, AllocError>
     let mut text = verdict_lines(alloc, own)?;
     let warnings = finding_lines(alloc, own.name.get(), "warning, ", own.warnings.get())?;
     text.push_str(warnings.as_str())?;
-    let promises = findings_text(alloc, &own.promises)?;
+    let promises = findings_text(alloc, own.name.get(), &own.promises)?;
     text.push_str(promises.as_str())?;
     Ok(text)
 }

@@ -2,13 +2,16 @@
 ghost use Rattle.std.specs.Prelude.{◌≡◌, ◌++◌, ◌≤◌, ◌<◌, length, option_map, option_to_list, IfOk, OnOk};
 ghost use Rattle.std.specs.List.{flat_map};
 ghost use Rattle.wh_table_check.specs.Warnings.{ends_activity, fires, is_of_child, awaits, is_awaited, opened, unawaited};
-ghost use Rattle.wh_table_check.specs.Warnings.{leads_out, has_way_out, goes_on, stuck, row_warnings, warnings};
+ghost use Rattle.wh_table_check.specs.Warnings.{leads_out, has_way_out, goes_on, stuck, command_warnings, row_warnings, rows_warnings};
 
 use crate::finding::{TableFinding, finding_at};
+use crate::names::nameless_warning;
+use crate::new_runs::tableless_warning;
+use crate::signals::dropped_warning;
 use std::alloc::Global;
 use wh_events::{OutOfMemory, Text};
 use wh_row_rules::{OwnedRow, has_state, some_closes, text_eq};
-use wh_rows::{CommandTemplate, JobPattern};
+use wh_rows::{CommandTemplate, JobPattern, Naming};
 
 /// Returns whether the pattern matches an end of the activity with this id.
 fn ends_activity(pattern: &JobPattern<Text>, id: &Text) -> bool
@@ -161,19 +164,35 @@ fn add(found: &mut Vec<TableFinding>, one: Option<TableFinding>) -> Result<(), O
     Ok(())
 }
 
+/// Adds the warnings for a command of the row of this number.
+fn add_command(
+    alloc: Global,
+    found: &mut Vec<TableFinding>,
+    number: u64,
+    rows: &[OwnedRow],
+    template: &CommandTemplate<Text>,
+) -> Result<(), OutOfMemory>
+    ensures { OnOk result (found.new.items ≡ found.old.items ++ command_warnings number rows.now template.now) }
+{
+    let one = unawaited_warning(alloc, number, rows, template)?;
+    add(found, one)?;
+    let other = tableless_warning(alloc, number, template)?;
+    add(found, other)
+}
+
 /// Adds the warnings for the commands of the row of this number.
-fn add_unawaited(
+fn add_commands(
     alloc: Global,
     found: &mut Vec<TableFinding>,
     number: u64,
     rows: &[OwnedRow],
     gives: &[CommandTemplate<Text>],
 ) -> Result<(), OutOfMemory>
-    ensures { OnOk result (found.new.items ≡ found.old.items ++ flat_map (unawaited number rows.now) gives.now) }
+    ensures { OnOk result
+        (found.new.items ≡ found.old.items ++ flat_map (command_warnings number rows.now) gives.now) }
 {
     for template in gives {
-        let one = unawaited_warning(alloc, number, rows, template)?;
-        add(found, one)?;
+        add_command(alloc, found, number, rows, template)?;
     }
     Ok(())
 }
@@ -182,27 +201,39 @@ fn add_unawaited(
 fn add_row(
     alloc: Global,
     found: &mut Vec<TableFinding>,
+    naming: &Naming<Text>,
     place: usize,
     rows: &[OwnedRow],
     row: &OwnedRow,
 ) -> Result<(), OutOfMemory>
     requires { place < length rows.now }
-    ensures { OnOk result (found.new.items ≡ found.old.items ++ row_warnings rows.now place row.now) }
+    ensures { OnOk result
+        (found.new.items ≡ found.old.items ++ row_warnings naming.now rows.now place row.now) }
 {
     let one = stuck_warning(alloc, place, rows, row)?;
     add(found, one)?;
-    add_unawaited(alloc, found, place as u64 + 1, rows, row.gives.get())
+    let lost = dropped_warning(alloc, place, rows, row)?;
+    add(found, lost)?;
+    let other = nameless_warning(alloc, naming, place as u64 + 1, row)?;
+    add(found, other)?;
+    add_commands(alloc, found, place as u64 + 1, rows, row.gives.get())
 }
 
-/// Returns the warnings for a table without a fault, row by row: for each state that no row leads
-/// out of, at the first row for it, and for each activity, timer and child that a row starts and no
-/// row of the table waits for. `OutOfMemory` if there is no memory for the list.
-pub(crate) fn warnings(alloc: Global, rows: &[OwnedRow]) -> Result<Vec<TableFinding>, OutOfMemory>
-    ensures { IfOk result (λ found. found.items ≡ warnings rows.now) }
+/// Adds the warnings for the rows of a table without a fault, whose runs are named so, row by row:
+/// for each state that no row leads out of, at the first row for it; for each signal that a state
+/// drops, at the first row for it; for `@` where the name of the run may be empty; for each
+/// activity, timer and child that a row starts and no row of the table waits for; and for each new
+/// run of a table that gets none. `OutOfMemory` if there is no memory for them.
+pub(crate) fn add_rows(
+    alloc: Global,
+    found: &mut Vec<TableFinding>,
+    naming: &Naming<Text>,
+    rows: &[OwnedRow],
+) -> Result<(), OutOfMemory>
+    ensures { OnOk result (found.new.items ≡ found.old.items ++ rows_warnings naming.now rows.now) }
 {
-    let mut found = Vec::new(alloc);
     for (place, row) in rows.iter().enumerate() {
-        add_row(alloc, &mut found, place, rows, row)?;
+        add_row(alloc, found, naming, place, rows, row)?;
     }
-    Ok(found)
+    Ok(())
 }

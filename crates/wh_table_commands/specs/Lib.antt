@@ -1,5 +1,7 @@
 pub mod Checks
 pub mod Files
 pub mod Pictures
-pub mod Refusals
+pub mod Scenarios
+pub mod Stuck
+pub mod TrialReports
 pub mod Trials

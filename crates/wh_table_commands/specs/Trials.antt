@@ -1,40 +1,47 @@
--- What a trial of a table writes, and its status.
-use Rattle.std.specs.Prelude.{◌≡◌, ◌≢◌, ◌⊎◌, ℕ, List, ◌++◌, Option, Some, None, codes, string_bytes}
-use Rattle.wh_console.specs.Consoles.{ConsoleView}
-use Rattle.wh_diagnostics.specs.Files.{IsFileAt}
-use Rattle.wh_diagnostics.specs.Printing.{HasPrinted}
+-- What a trial of tables is, what it writes, and its status.
+use Rattle.std.specs.Prelude.{◌≡◌, ◌≢◌, ◌⊎◌, ℕ, List, Option, Some, None}
+use Rattle.wh_console.specs.declared.files.Input.{Input}
+use Rattle.wh_console.specs.declared.format.Format.{Format}
+use Rattle.wh_diagnostics.specs.Failures.{IsReadFailure}
 use Rattle.wh_diagnostics.specs.Readings.{Gives}
-use Rattle.wh_file_faults.specs.Faults.{File}
-use Rattle.wh_table_trial.specs.Commands.{status_of}
-use Rattle.wh_table_trial.specs.Texts.{trial_text}
-use Rattle.wh_table_trial.specs.Trials.{trial}
+use Rattle.wh_diagnostics.specs.Walks.{Silently, Visits}
+use Rattle.wh_diagnostics.specs.declared.failures.Failure.{Failure}
+use Rattle.wh_diagnostics.specs.declared.failures.Failure.TheVariants.{OutOfMemory}
+use Rattle.wh_table_commands.specs.Files.{IsTableOf}
+use Rattle.wh_table_commands.specs.Scenarios.{IsInputBeside, IsScenario, LacksScenario}
+use Rattle.wh_table_commands.specs.TrialReports.{HasReported}
+use Rattle.wh_table_commands.specs.declared.files.TableFile.{TableFile}
+use Rattle.wh_table_commands.specs.declared.trying.TableTrial.{TableTrial}
+use Rattle.wh_table_trial.specs.Trials.{trial, without_scenario}
 
--- the path without `.json` at its end, or the path itself if it does not end that way
-abbrev pub IsStem : (path stem : List ℕ) → Type 0
-IsStem path stem = (path ≡ stem ++ codes ".json")
-    ⊎ ((stem ≡ path) × ((front : List ℕ) → path ≢ front ++ codes ".json"))
+-- what comes of the table in a file that has this scenario
+abbrev pub trial_on : TableFile → (scenario : List ℕ) → TableTrial
+trial_on file scenario = record { name = file.name; own = trial file.bytes scenario; lack = None }
 
--- the path with `.txt` instead of `.json` at its end, or with `.txt` added
-pub record IsBeside (path other : List ℕ) : Type 0 where
-  pub stem : List ℕ
-  pub cut : IsStem path stem
-  pub made : other ≡ stem ++ codes ".txt"
+-- what comes of the table in a file that has no scenario, for this reason
+abbrev pub trial_lacking : TableFile → Failure → TableTrial
+trial_lacking file failure = record { name = file.name; own = without_scenario; lack = Some failure }
 
--- the text is the content of the file at a path
-pub record IsTextAt (gives : Gives) (path text : List ℕ) : Type 0 where
-  pub file : File
-  pub read : IsFileAt gives path file
-  pub holds : text ≡ file.1.items
+-- the table in a file was tried on its scenario, or it has none: one that is given is there, unless there was no memory
+abbrev pub IsTrialOf : Gives → (given : Option (List ℕ)) → TableFile → (beside : Input) → TableTrial → Type 0
+IsTrialOf gives given file beside own =
+    ((scenario : List ℕ) × IsScenario gives beside given scenario × (own ≡ trial_on file scenario))
+    ⊎ ((failure : Failure) × LacksScenario gives beside given failure × (failure ≢ OutOfMemory)
+    × (own ≡ trial_lacking file failure))
 
--- the scenario is the one that is given, or else the content of the file beside the table
-abbrev pub IsScenario : Gives → (path : List ℕ) → Option (List ℕ) → List ℕ → Type 0
-IsScenario gives path (Some given) scenario = scenario ≡ given
-IsScenario gives path None scenario = (other : List ℕ) × IsBeside path other × IsTextAt gives other scenario
+-- an input was read as the file of a table, and this came of it
+pub record IsTried (gives : Gives) (given : Option (List ℕ)) (input : Input) (own : TableTrial) : Type 0 where
+  pub file : TableFile
+  pub read : IsTableOf gives input file
+  pub beside : Input
+  pub is_beside : IsInputBeside input beside
+  pub tried : IsTrialOf gives given file beside own
 
--- the table in the file at a path was tried on its scenario and the result was written; the status is that of the trial
-pub record HasTried (gives : Gives) (path : List ℕ) (given : Option (List ℕ)) (file : File) (old new : ConsoleView)
-    (status : ℕ) : Type 0 where
-  pub scenario : List ℕ
-  pub found : IsScenario gives path given scenario
-  pub printed : HasPrinted (trial_text (string_bytes file.0) (trial file.1.items scenario))
-      (status_of (trial file.1.items scenario)) old new status
+-- `try`: the table in each input is tried, and then the report is written
+abbrev pub trials : (given : Option (List ℕ)) → Format → Visits TableTrial
+trials given format =
+    record {
+      tells = Silently (λ gives. IsTried gives given);
+      stops = IsReadFailure;
+      ends = λ all lacks. HasReported all format lacks;
+    }

@@ -1,82 +1,95 @@
 //! The command `check`.
 
-ghost use Rattle.std.specs.Prelude.{◌≡◌, Err, IfErr, IfOk, List};
+ghost use Rattle.std.specs.Prelude.{◌≡◌, Err, IfErr, IfOk, OnOk};
 ghost use Rattle.wh_console.specs.Consoles.{IsQuiet, Printed};
+ghost use Rattle.wh_console.specs.Inputs.{IsReadFrom};
 ghost use Rattle.wh_diagnostics.specs.Failures.{IsWriteFailure};
+ghost use Rattle.wh_diagnostics.specs.Listings.{AtPaths, FailsAtPaths};
 ghost use Rattle.wh_diagnostics.specs.Printing.{HasPrinted, IsRefused, status_with};
-ghost use Rattle.std.specs.List.{AllZip};
+ghost use Rattle.wh_diagnostics.specs.Walks.{HasBrokenOff, HasWalked};
 ghost use Rattle.wh_table_check.specs.Checks.{status_of};
 ghost use Rattle.wh_table_check.specs.Texts.{report_as};
-ghost use Rattle.wh_table_check.specs.declared.checking.TableCheck.{TableCheck as CheckView};
-ghost use Rattle.wh_table_commands.specs.Checks.{IsChecked, HasChecked, HasCheckedPaths, HasNotChecked, HasNotCheckedPaths};
+ghost use Rattle.wh_table_commands.specs.Checks.{checks};
 
-use crate::checking::check_tables;
-use crate::files::{TableFile, table_files};
+use crate::checking::check_input;
 use std::alloc::Global;
 use std::io::Write;
 use std::rt::Runtime;
-use wh_console::{Console, Format, Outlet};
-use wh_diagnostics::{Failure, InputReader, Listed, all_inputs, flush_answer, status_with};
+use wh_console::{Console, Format, Input, Outlet};
+use wh_diagnostics::{Failure, InputReader, Visitor, flush_answer, status_with, walk_paths};
 use wh_events::Text;
 use wh_file_faults::CommandFault;
 use wh_table_check::{TableCheck, status_of, write_checked};
 
-/// Checks the tables in these files, and writes the report.
-fn print_check<O: Write, E: Write>(
-    alloc: Global,
-    files: &[TableFile],
+/// The command `check`.
+#[derive(Clone, Copy)]
+struct Check {
+    /// The form of the report.
     format: Format,
+}
+
+/// Writes the report of checks, and returns their status.
+fn print_checks<O: Write, E: Write>(
+    alloc: Global,
+    all: &[TableCheck],
+    format: Format,
+    lacks: bool,
     console: &mut Console<'_, O, E>,
-) -> Result<Vec<TableCheck>, CommandFault>
-    ensures checked { IfOk result (λ all. AllZip IsChecked files.now all.items) }
-    ensures printed { IfOk result (λ all. Printed console.old console.new (report_as format all.items)) }
+) -> Result<u8, CommandFault>
+    ensures printed { OnOk result (Printed console.old console.new (report_as format all.now)) }
+    ensures status { IfOk result (λ status. status ≡ status_with lacks (status_of all.now)) }
     ensures quiet { IsQuiet console.old console.new }
     ensures unwritten { result ≡ Err CommandFault.OutOfMemory → console.new.output ≡ console.old.output }
 {
-    let Ok(all) = check_tables(alloc, files) else {
-        return Err(CommandFault::OutOfMemory);
-    };
-    write_checked::<Outlet<O>>(alloc, all.as_slice(), format, &mut console.output)?;
-    Ok(all)
+    write_checked::<Outlet<O>>(alloc, all, format, &mut console.output)?;
+    Ok(status_with(lacks, status_of(all)))
 }
 
-/// Checks the tables in these files, writes the report, and returns the status after the output is
-/// flushed.
-fn check_files<O: Write, E: Write>(
+/// Writes the report of checks, and returns their status after the output is flushed.
+fn report_checks<O: Write, E: Write>(
     alloc: Global,
-    files: &[TableFile],
+    all: &[TableCheck],
     format: Format,
     lacks: bool,
     console: &mut Console<'_, O, E>,
 ) -> Result<u8, Failure>
-    ensures checked { IfOk result (λ status. (all : List CheckView) × AllZip IsChecked files.now all
-        × HasPrinted (report_as format all) (status_with lacks (status_of all)) console.old console.new status) }
+    ensures printed { IfOk result (HasPrinted (report_as format all.now) (status_with lacks (status_of all.now))
+        console.old console.new) }
     ensures refused { IfErr result (IsRefused console.old console.new) }
     ensures why { IfErr result IsWriteFailure }
 {
-    let checked = match print_check::<O, E>(alloc, files, format, console) {
-        Ok(checked) => checked,
-        Err(fault) => return flush_answer(Err(fault), console),
-    };
-    let status = status_with(lacks, status_of(checked.as_slice()));
-    flush_answer(Ok(status), console)
+    let answer = print_checks(alloc, all, format, lacks, console);
+    flush_answer(answer, console)
 }
 
-/// Reads what was listed as files, and checks their tables.
-fn check_inputs<R: InputReader + AllocGlobal, O: Write, E: Write>(
-    rt: &R,
-    listed: Listed,
-    format: Format,
-    console: &mut Console<'_, O, E>,
-) -> Result<u8, Failure>
-    ensures checked { IfOk result (HasChecked R.gives format listed.inputs.items listed.left_out
-        console.old console.new) }
-    ensures stopped { IfErr result
-        (HasNotChecked R.gives listed.inputs.items listed.left_out console.old console.new) }
-{
-    let lacks = listed.lacks_files(false);
-    let files = table_files(rt, listed.inputs)?;
-    check_files::<O, E>(rt.alloc(), files.as_slice(), format, lacks, console)
+impl Visitor for Check {
+    type Kept = TableCheck;
+
+    ghost visits = { λ own. checks own.format };
+
+    fn visit<R: InputReader + AllocGlobal, O: Write, E: Write>(
+        &self,
+        rt: &R,
+        input: Input,
+        _console: &mut Console<'_, O, E>,
+    ) -> Result<TableCheck, Failure> {
+        check_input(rt, input)
+    }
+
+    fn finish<O: Write, E: Write>(
+        &self,
+        alloc: Global,
+        all: Vec<TableCheck>,
+        lacks: bool,
+        console: &mut Console<'_, O, E>,
+    ) -> Result<u8, Failure>
+        ensures ended { IfOk result (HasPrinted (report_as self.now.format all.items)
+            (status_with lacks (status_of all.items)) console.old console.new) }
+        ensures refused { IfErr result (IsRefused console.old console.new) }
+        ensures why { IfErr result IsWriteFailure }
+    {
+        report_checks(alloc, all.as_slice(), self.format, lacks, console)
+    }
 }
 
 /// Checks the tables in the files at these paths, decides their promises, and writes the report.
@@ -94,10 +107,10 @@ pub fn check_paths<R: Runtime + AllocGlobal, O: Write, E: Write>(
     format: Format,
     console: &mut Console<'_, O, E>,
 ) -> Result<u8, Failure>
-    ensures checked { IfOk result
-        (HasCheckedPaths format first more.items console.old console.new) }
-    ensures stopped { IfErr result (HasNotCheckedPaths first more.items console.old console.new) }
+    ensures checked { IfOk result (AtPaths (HasWalked (checks format) IsReadFrom) first more.items
+        console.old console.new) }
+    ensures stopped { IfErr result (FailsAtPaths (HasBrokenOff (checks format) IsReadFrom) first more.items
+        console.old console.new) }
 {
-    let listed = all_inputs(rt, first, more, console)?;
-    check_inputs::<R, O, E>(rt, listed, format, console)
+    walk_paths(&Check { format }, rt, first, more, console)
 }

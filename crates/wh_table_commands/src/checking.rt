@@ -1,11 +1,14 @@
-//! Checks the tables in files.
+//! Checks the table in a file.
 
-ghost use Rattle.std.specs.Prelude.{IfOk};
-ghost use Rattle.std.specs.List.{AllZip};
+ghost use Rattle.std.specs.Prelude.{IfErr, IfOk};
+ghost use Rattle.wh_diagnostics.specs.Failures.{IsReadFailure};
 ghost use Rattle.wh_table_commands.specs.Checks.{IsCheckOf, IsChecked};
 
-use crate::files::TableFile;
+use crate::files::{TableFile, table_file};
+use crate::stuck::stuck_finding;
 use std::alloc::Global;
+use wh_console::Input;
+use wh_diagnostics::{Failure, InputReader};
 use wh_events::OutOfMemory;
 use wh_promise_check::promise_findings;
 use wh_table_check::{TableCheck, table_check};
@@ -20,30 +23,23 @@ pub(crate) fn read_and_check(
 {
     let reading = table_reading(alloc, file.bytes.get())?;
     let promises = promise_findings(alloc, &reading)?;
-    let own = table_check(alloc, &file.name, &reading, promises)?;
+    let stuck = stuck_finding(alloc, &reading.table)?;
+    let own = table_check(alloc, &file.name, &reading, promises, &stuck)?;
     Ok((reading, own))
 }
 
-/// Checks the table in a file.
-fn check_file(alloc: Global, file: &TableFile) -> Result<TableCheck, OutOfMemory>
-    ensures { IfOk result (IsChecked file.now) }
+/// Reads an input as the file of a table, and checks that.
+pub(crate) fn check_input<R: InputReader + AllocGlobal>(
+    rt: &R,
+    input: Input,
+) -> Result<TableCheck, Failure>
+    ensures checked { IfOk result (IsChecked R.gives input) }
+    ensures why { IfErr result IsReadFailure }
 {
-    let (reading, own) = read_and_check(alloc, file)?;
+    let file = table_file(rt, input)?;
+    let Ok((reading, own)) = read_and_check(rt.alloc(), &file) else {
+        return Err(Failure::OutOfMemory);
+    };
     drop(reading);
     Ok(own)
-}
-
-/// Checks the table in each file.
-pub(crate) fn check_tables(
-    alloc: Global,
-    files: &[TableFile],
-) -> Result<Vec<TableCheck>, OutOfMemory>
-    ensures { IfOk result (λ all. AllZip IsChecked files.now all.items) }
-{
-    let mut all = Vec::new(alloc);
-    for file in files {
-        let own = check_file(alloc, file)?;
-        all.push(own)?;
-    }
-    Ok(all)
 }

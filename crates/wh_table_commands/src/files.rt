@@ -1,7 +1,6 @@
 //! Reads files of tables.
 
 ghost use Rattle.std.specs.Prelude.{◌≡◌, IfErr, IfOk};
-ghost use Rattle.std.specs.List.{AllZip};
 ghost use Rattle.wh_diagnostics.specs.Failures.{IsReadFailure};
 ghost use Rattle.wh_table_commands.specs.Files.{IsTableOf, table_of};
 
@@ -30,28 +29,10 @@ pub(crate) fn table_of(file: (String, Vec<u8>)) -> TableFile
 }
 
 /// Reads an input as the file of a table.
-fn table_file<R: InputReader>(rt: &R, input: Input) -> Result<TableFile, Failure>
+pub(crate) fn table_file<R: InputReader>(rt: &R, input: Input) -> Result<TableFile, Failure>
     ensures read { IfOk result (IsTableOf R.gives input) }
     ensures why { IfErr result IsReadFailure }
 {
     let file = file_from(rt, input)?;
     Ok(table_of(file))
-}
-
-/// Reads inputs as the files of tables, in their order.
-pub(crate) fn table_files<R: InputReader + AllocGlobal>(
-    rt: &R,
-    inputs: Vec<Input>,
-) -> Result<Vec<TableFile>, Failure>
-    ensures read { IfOk result (λ files. AllZip (IsTableOf R.gives) inputs.items files.items) }
-    ensures why { IfErr result IsReadFailure }
-{
-    let mut files = Vec::new(rt.alloc());
-    for input in inputs {
-        let file = table_file(rt, input)?;
-        let Ok(()) = files.push(file) else {
-            return Err(Failure::OutOfMemory);
-        };
-    }
-    Ok(files)
 }

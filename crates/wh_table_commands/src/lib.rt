@@ -6,9 +6,15 @@ mod check;
 mod checking;
 mod files;
 mod picture;
+mod scenario;
+mod stuck;
 mod trial;
+mod trial_report;
+mod trying;
 
 pub use check::check_paths;
 pub use files::TableFile;
 pub use picture::picture_path;
-pub use trial::try_path;
+pub use stuck::stuck_finding;
+pub use trial::try_paths;
+pub use trying::TableTrial;

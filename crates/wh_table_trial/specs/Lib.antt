@@ -1,4 +1,4 @@
 pub mod Entries
-pub mod Trials
+pub mod Objects
 pub mod Texts
-pub mod Commands
+pub mod Trials

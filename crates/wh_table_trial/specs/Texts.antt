@@ -21,6 +21,10 @@ steps_text steps = flat_map step_text steps
 abbrev pub ok_text : List ℕ → ℕ → List ℕ
 ok_text name count = shown name ++ (codes ": ok, " ++ (decimal count ++ codes " jobs\n"))
 
+-- the last line for a table that has no scenario
+abbrev pub no_scenario_text : List ℕ → List ℕ
+no_scenario_text name = shown name ++ codes ": no scenario\n"
+
 -- the last line for a file that is not a table
 abbrev pub no_table_text : List ℕ → List ℕ → List ℕ
 no_table_text name reason = shown name ++ (codes ": " ++ (shown reason ++ codes "\n"))
@@ -39,6 +43,7 @@ gives_text name line given wanted =
 -- the last lines: that nothing differs, with the number of jobs, or the difference
 abbrev pub difference_text : List ℕ → ℕ → Option TrialDifference → List ℕ
 difference_text name count None = ok_text name count
+difference_text name count (Some differences.NoScenario) = no_scenario_text name
 difference_text name count (Some (differences.NoTable reason)) = no_table_text name reason
 difference_text name count (Some (differences.NoJob line words)) = no_job_text name line words
 difference_text name count (Some (differences.Gives line given wanted)) = gives_text name line given wanted

@@ -1,5 +1,5 @@
 -- The commands that a table gives to the jobs of a scenario, and where they differ from it.
-use Rattle.std.specs.Prelude.{ℕ, List, [], ◌∷◌, ◌++◌, map, bytes_eq, codes, Option, Some, None, Result, Ok, Err, if◌then◌else◌}
+use Rattle.std.specs.Prelude.{ℕ, Bool, is_none, List, [], ◌∷◌, ◌++◌, map, bytes_eq, codes, Option, Some, None, Result, Ok, Err, if◌then◌else◌}
 use Rattle.wh_events.specs.declared.event.Payload.{Payload}
 use Rattle.wh_workflow.specs.declared.command.Command.{Command}
 use Rattle.wh_workflow.specs.declared.command.Command.TheVariants as commands
@@ -107,6 +107,14 @@ abbrev pub begun : At
 begun = record { state = table.begun (codes "Table") [] table.no_table; given = []; steps = [] }
 
 -- ---- A file
+
+-- nothing differs
+abbrev pub is_good : Trial → Bool
+is_good own = is_none own.difference
+
+-- the result for a table that has no scenario
+abbrev pub without_scenario : Trial
+without_scenario = record { steps = []; difference = Some differences.NoScenario }
 
 -- the result for a file that is not a table
 abbrev pub no_table : TableFault → Trial

@@ -3,6 +3,7 @@ ghost use Rattle.std.specs.Prelude.{◌≡◌, ◌∷◌, [], IfOk, OnOk, map};
 ghost use Rattle.wh_table.specs.Program.{after, gives};
 ghost use Rattle.wh_table_trial.specs.Entries.{scenario_entries};
 ghost use Rattle.wh_table_trial.specs.Trials.{table_payload, started, named, shorter, given_text, differs, seen, told, stop, later, ended, tried, begun, no_table, trial};
+ghost use Rattle.wh_table_trial.specs.Trials.{is_good, without_scenario};
 
 use crate::entries::{Entry, scenario_entries};
 use std::alloc::Global;
@@ -22,9 +23,11 @@ pub struct TrialStep {
     pub given: Text,
 }
 
-/// Where a run differs from a scenario. Lines are counted from 1.
+/// Where a run differs from a scenario, or why there is no run. Lines are counted from 1.
 #[derive(Drop)]
 pub enum TrialDifference {
+    /// The table has no scenario.
+    NoScenario,
     /// The file is not a table.
     NoTable {
         /// The reason: the first fault of the table.
@@ -55,6 +58,25 @@ pub struct Trial {
     pub steps: Items<TrialStep>,
     /// The difference, if there is one.
     pub difference: Option<TrialDifference>,
+}
+
+impl Trial {
+    /// Returns the result for a table that has no scenario: no jobs, and `NoScenario`.
+    pub fn without_scenario(alloc: Global) -> Trial
+        ensures { result ≡ without_scenario }
+    {
+        Trial {
+            steps: Items::new(Vec::new(alloc)),
+            difference: Some(TrialDifference::NoScenario),
+        }
+    }
+
+    /// Returns whether nothing differs.
+    pub fn is_good(&self) -> bool
+        ensures { result ≡ is_good self.now }
+    {
+        self.difference.is_none()
+    }
 }
 
 /// The state of a trial.

@@ -1,6 +1,6 @@
 //! Writes the result of a trial as text.
 ghost use Rattle.std.specs.Prelude.{◌≡◌, IfOk, string_bytes};
-ghost use Rattle.wh_table_trial.specs.Texts.{step_text, steps_text, ok_text, no_table_text, no_job_text, gives_text, end_text, trial_text};
+ghost use Rattle.wh_table_trial.specs.Texts.{step_text, steps_text, ok_text, no_scenario_text, no_table_text, no_job_text, gives_text, end_text, trial_text};
 
 use crate::running::{Trial, TrialDifference, TrialStep};
 use std::alloc::{AllocError, Global};
@@ -37,6 +37,14 @@ fn ok_text(alloc: Global, name: &str, count: usize) -> Result<String, AllocError
 {
     let name = Shown(name);
     format!(in alloc; "{name}: ok, {count} jobs\n")
+}
+
+/// Returns the last line for a table that has no scenario.
+fn no_scenario_text(alloc: Global, name: &str) -> Result<String, AllocError>
+    ensures { IfOk result (λ text. string_bytes text ≡ no_scenario_text name.now) }
+{
+    let name = Shown(name);
+    format!(in alloc; "{name}: no scenario\n")
 }
 
 /// Returns the last line for a file that is not a table.
@@ -76,6 +84,7 @@ fn end_text(alloc: Global, name: &str, own: &Trial) -> Result<String, AllocError
 {
     match &own.difference {
         None => ok_text(alloc, name, own.steps.get().len()),
+        Some(TrialDifference::NoScenario) => no_scenario_text(alloc, name),
         Some(TrialDifference::NoTable { reason }) => no_table_text(alloc, name, reason.get()),
         Some(TrialDifference::NoJob { line, words }) => no_job_text(
             alloc,

@@ -6,4 +6,4 @@ use Rattle.wh_table_check.proofs.promise_texts.each_text.Given as goal
 -- the lines so far and those of the rest are all
 abbrev pub invariant-loop-index : goal.invariant-loop-index
 invariant-loop-index l =
-    string_bytes l.text ++ each_text (l.index + 1) (drop l.index l.list) ≡ each_text 1 l.list
+    string_bytes l.text ++ each_text l.name (l.index + 1) (drop l.index l.list) ≡ each_text l.name 1 l.list
