@@ -2,18 +2,19 @@
 
 ghost use Rattle.std.specs.Prelude.{◌≡◌, option_map, IfOk};
 ghost use Rattle.serde_json.specs.View.{view};
-ghost use Rattle.wh_json.specs.Events.{event_at, rule_for};
+ghost use Rattle.wh_json.specs.Events.{rule_for};
 ghost use Rattle.wh_json.specs.Types.{rule_of};
-ghost use Rattle.wh_json.specs.Partial.{attributes_in, first_text, partial_fields, partial_kind};
-ghost use Rattle.wh_json.specs.Partial.{kind_from, fault_from, name_of, partial_event};
+ghost use Rattle.wh_json.specs.Partial.{attributes_in, first_text, partial_fields, partial_kind, name_of};
+ghost use Rattle.wh_json.specs.Partial.{partial_event};
+ghost use Rattle.wh_json.specs.Private.PartialEvents.{time_in, whole_event, faulty_event};
 
-use crate::events::{event_at, event_number, number_or_zero, read_path, row_for, type_name};
+use crate::events::{event_number, event_under, number_or_zero, read_path, row_for, type_name};
 use crate::fault::ReadFault;
 use crate::fields::{field, text_of, time_of};
 use crate::types::{Fields, TypeRow, is_marker, kind_of};
 use serde_json::Value;
 use std::alloc::Global;
-use wh_events::{EventKind, EventNo, Items, OutOfMemory, Text};
+use wh_events::{Event, EventKind, EventNo, Items, OutOfMemory, Text};
 
 /// What can be read of an event, whatever the history holds in its place.
 #[derive(Drop)]
@@ -83,46 +84,70 @@ fn partial_fields(
 }
 
 /// Returns the kind of an event by the row of its type, if the type is read.
-fn partial_kind(alloc: Global, member: &Value) -> Result<Option<EventKind>, OutOfMemory>
-    ensures { IfOk result (λ kind.
-        kind ≡ option_map (partial_kind (view member.now)) (rule_for (view member.now))) }
+fn partial_kind(
+    alloc: Global,
+    member: &Value,
+    known: Option<&'static TypeRow>,
+) -> Result<Option<EventKind>, OutOfMemory>
+    ensures { IfOk result (λ kind. kind
+        ≡ option_map (partial_kind (view member.now)) (option_map (λ row. rule_of row.now) known.entry)) }
 {
-    let Some(row) = row_for(member) else {
+    let Some(row) = known else {
         return Ok(None);
     };
     let fields = partial_fields(alloc, row, field(Some(member), row.attributes))?;
     Ok(Some(kind_of(row.event_type, fields)))
 }
 
-/// Returns the kind and the fault of the event at a place, which follows the event with the number
-/// before.
-fn kind_and_fault(
-    alloc: Global,
-    at: u64,
-    before: Option<EventNo>,
-    member: &Value,
-) -> Result<(Option<EventKind>, Option<ReadFault>), OutOfMemory>
-    ensures kind { IfOk result (λ read. read.0 ≡ kind_from (event_at at before (view member.now))
-        (option_map (partial_kind (view member.now)) (rule_for (view member.now)))) }
-    ensures fault { IfOk result (λ read. read.1 ≡ fault_from (event_at at before (view member.now))) }
+/// Returns the plain name of a type that is read, or else the name that the event gives.
+fn name_of<'v>(member: &'v Value, known: Option<&'static TypeRow>) -> &'v str
+    ensures { option_map (λ row. rule_of row.now) known.entry ≡ rule_for (view member.now)
+        → result.now ≡ name_of (view member.now) }
 {
-    match event_at(alloc, at, before, member) {
-        Ok(event) => Ok((Some(event.body), None)),
-        Err(ReadFault::OutOfMemory) => Err(OutOfMemory),
-        Err(fault) => {
-            let kind = partial_kind(alloc, member)?;
-            Ok((kind, Some(fault)))
-        }
+    match known {
+        Some(row) => row.name,
+        None => type_name(member),
     }
 }
 
-/// Returns the plain name of a type that is read, or else the name that the event gives.
-fn name_of(member: &Value) -> &str
-    ensures { result.now ≡ name_of (view member.now) }
+/// Returns when an event happened, if it says so.
+fn time_in(member: &Value) -> Option<i128>
+    ensures { result ≡ time_in (view member.now) }
 {
-    match row_for(member) {
-        Some(row) => row.name,
-        None => type_name(member),
+    time_of(text_of(field(Some(member), "eventTime")))
+}
+
+/// Returns what can be read of an event that the reader refuses for this fault.
+fn faulty_event(
+    alloc: Global,
+    member: &Value,
+    known: Option<&'static TypeRow>,
+    name: Text,
+    fault: ReadFault,
+) -> Result<PartialEvent, OutOfMemory>
+    ensures { IfOk result (λ event. event
+        ≡ faulty_event (view member.now) (option_map (λ row. rule_of row.now) known.entry) name fault) }
+{
+    let kind = partial_kind(alloc, member, known)?;
+    Ok(PartialEvent {
+        number: event_number(member),
+        time: time_in(member),
+        name,
+        kind,
+        fault: Some(fault),
+    })
+}
+
+/// Returns what is read of an event that has no fault.
+fn whole_event(name: Text, event: Event) -> PartialEvent
+    ensures { result ≡ whole_event name event }
+{
+    PartialEvent {
+        number: Some(event.number),
+        time: Some(event.time),
+        name,
+        kind: Some(event.body),
+        fault: None,
     }
 }
 
@@ -137,13 +162,11 @@ pub fn partial_event(
 ) -> Result<PartialEvent, OutOfMemory>
     ensures { IfOk result (λ event. event ≡ partial_event at before (view member.now)) }
 {
-    let name = copy_text(alloc, name_of(member))?;
-    let (kind, fault) = kind_and_fault(alloc, at, before, member)?;
-    Ok(PartialEvent {
-        number: event_number(member),
-        time: time_of(text_of(field(Some(member), "eventTime"))),
-        name,
-        kind,
-        fault,
-    })
+    let known = row_for(member);
+    let name = copy_text(alloc, name_of(member, known))?;
+    match event_under(alloc, at, before, member, known) {
+        Ok(event) => Ok(whole_event(name, event)),
+        Err(ReadFault::OutOfMemory) => Err(OutOfMemory),
+        Err(fault) => faulty_event(alloc, member, known, name, fault),
+    }
 }

@@ -2,6 +2,8 @@
 use Rattle.std.specs.Prelude.{ℕ, codes, Option, option_and_then, unwrap_or}
 use Rattle.serde_json.specs.Data.{Data}
 use Rattle.wh_json.specs.Fields.{field, number_of}
+use Rattle.wh_markers.specs.Markers.{marker_of}
+use Rattle.wh_view.specs.Attributes.{inner_text}
 use Rattle.wh_view.specs.Failures.{failures_of, ending_of}
 use Rattle.wh_view.specs.Updates.{update_of}
 use Rattle.wh_view.specs.declared.view.EventDetails.{EventDetails as Kept}
@@ -18,4 +20,6 @@ details_of attributes = record {
   update = update_of attributes;
   failures = failures_of attributes;
   ending = ending_of attributes;
+  marker = marker_of attributes;
+  execution_run_id = inner_text (codes "workflowExecution") (codes "runId") attributes;
 }

@@ -8,6 +8,7 @@ use serde_json::{Map, Value};
 use std::alloc::Global;
 use wh_events::{OutOfMemory, Text};
 use wh_json::{attributes_in, field, text_of};
+use wh_markers::copy_text;
 
 /// Returns whether a member of this name holds the attributes of an event.
 fn holds_attributes(name: &str) -> bool
@@ -62,13 +63,6 @@ pub(crate) fn inner_text<'v>(value: Option<&'v Value>, outer: &str, name: &str) 
     ensures { result.now ≡ inner_text outer.now name.now (option_map (λ v. view v.now) value.entry) }
 {
     text_of(inner(value, outer, name))
-}
-
-/// Copies a text.
-pub(crate) fn copy_text(alloc: Global, text: &str) -> Result<Text, OutOfMemory>
-    ensures { IfOk result (λ copy. copy ≡ text.now) }
-{
-    Ok(Text::new(String::from_str(alloc, text)?))
 }
 
 /// Copies the text that the member with a name is.

@@ -7,22 +7,20 @@ ghost use Rattle.wh_view.specs.Details.{IsJsonOf, IsValueOf, AreMembersOr, ArePa
 ghost use Rattle.wh_json.specs.Fields.{field, list_in};
 ghost use Rattle.wh_view.specs.Details.{attempt_of, first_text, message_of, failure_of, duration_of};
 ghost use Rattle.wh_view.specs.Values.{changes_of, outcome_or_changes, update_values, values_of};
-ghost use Rattle.wh_view.specs.Details.{if_text, decoded, decoded_text, payload_list};
+ghost use Rattle.wh_markers.specs.Payloads.{payload_list};
 ghost use Rattle.wh_view.specs.EventDetails.{task_event, details_of};
 ghost use Rattle.wh_view.specs.Each.{Each};
 
-use crate::attributes::inner;
+use crate::attributes::{copy_inner, inner};
 use crate::failures::{ending_of, failures_of};
 use crate::members::member_texts;
-use crate::payloads::payload_text;
 use crate::updates::{arguments_in, update_of};
 use crate::view::EventDetails;
-use base64::DecodeAllocError;
-use base64::engine::general_purpose::STANDARD;
 use serde_json::Value;
 use std::alloc::Global;
 use wh_events::{Items, OutOfMemory, Text};
 use wh_json::{field, list_in, number_of, text_of};
+use wh_markers::{marker_of, payload_list, payload_text};
 
 /// Returns the attempt in an event's attributes, 0 if they have none.
 pub(crate) fn attempt_of(attributes: Option<&Value>) -> u64
@@ -122,40 +120,6 @@ pub(crate) fn json_of(alloc: Global, value: &Value) -> Result<Text, OutOfMemory>
     Ok(Text::new(value.to_string(alloc)?))
 }
 
-/// Returns the bytes as text, if they are UTF-8.
-fn text_in(bytes: Vec<u8>) -> Option<Text>
-    ensures { result ≡ if_text bytes.items }
-{
-    match String::from_utf8(bytes) {
-        Ok(text) => Some(Text::new(text)),
-        Err(_) => None,
-    }
-}
-
-/// Decodes base64, and returns the text that it holds, if it holds one.
-pub(crate) fn base64_text(alloc: Global, content: &str) -> Result<Option<Text>, OutOfMemory>
-    ensures { IfOk result (λ text. text ≡ decoded content.now) }
-{
-    match STANDARD.decode(alloc, content.as_bytes()) {
-        Ok(bytes) => Ok(text_in(bytes)),
-        Err(DecodeAllocError::OutOfMemory) => Err(OutOfMemory),
-        Err(DecodeAllocError::DecodeError(_)) => Ok(None),
-    }
-}
-
-/// Returns the content of a payload, if it is a text.
-pub(crate) fn decoded_text(alloc: Global, payload: &Value) -> Result<Option<Text>, OutOfMemory>
-    ensures { IfOk result (λ text. text ≡ decoded_text (view payload.now)) }
-{
-    let Some(content) = field(Some(payload), "data") else {
-        return Ok(None);
-    };
-    match content.as_str() {
-        Some(content) => base64_text(alloc, content),
-        None => Ok(None),
-    }
-}
-
 /// Returns a value as text: a payload as `payload_text` has it, or else the value as JSON.
 pub(crate) fn value_text(alloc: Global, shorthand: bool, value: &Value) -> Result<Text, OutOfMemory>
     ensures { IfOk result (λ text. IsValueOf shorthand (view value.now) text) }
@@ -192,13 +156,6 @@ fn lone_text(alloc: Global, value: &Value) -> Result<Vec<Text>, OutOfMemory>
     let mut texts = Vec::new(alloc);
     texts.push(text)?;
     Ok(texts)
-}
-
-/// Returns the items of the list `payloads` of a value.
-pub(crate) fn payload_list<'v>(value: &'v Value) -> Option<&'v [Value]>
-    ensures { option_map (λ values. map view values.now) result ≡ payload_list (view value.now) }
-{
-    list_in(field(Some(value), "payloads")?)
 }
 
 /// Returns the members of an object as texts; a value that is none is returned itself.
@@ -268,10 +225,14 @@ pub(crate) fn details_of(
     let update = update_of(alloc, attributes)?;
     let failures = Items::new(failures_of(alloc, attributes)?);
     let ending = ending_of(alloc, attributes)?;
+    let marker = marker_of(alloc, attributes)?;
+    let execution_run_id = copy_inner(alloc, attributes, "workflowExecution", "runId")?;
     Ok(EventDetails {
         task_event: task_event(attributes),
         update,
         failures,
         ending,
+        marker,
+        execution_run_id,
     })
 }

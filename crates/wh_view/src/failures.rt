@@ -4,13 +4,14 @@ ghost use Rattle.std.specs.Prelude.{◌≡◌, IfOk, option_map};
 ghost use Rattle.serde_json.specs.View.{view};
 ghost use Rattle.wh_view.specs.Failures as failures;
 
-use crate::attributes::{copy_member, copy_text, inner, inner_text};
+use crate::attributes::{copy_member, inner, inner_text};
 use crate::details::first_text;
 use crate::view::{Ending, ViewedFailure};
 use serde_json::Value;
 use std::alloc::Global;
 use wh_events::OutOfMemory;
 use wh_json::field;
+use wh_markers::copy_text;
 
 /// The most failures of an event that are viewed: what failed, and the causes of that.
 pub const MOST_FAILURES: usize = 16;

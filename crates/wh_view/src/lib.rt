@@ -10,7 +10,6 @@ pub mod laws;
 mod lookups;
 mod members;
 mod parts;
-mod payloads;
 mod reading;
 mod runs;
 mod sums;
@@ -28,4 +27,5 @@ pub use view::{
     Ending, EventDetails, OpenTask, RunNames, RunStatus, ThingKind, UnsupportedKind, UpdateName,
     UpdateStep, View, ViewedEvent, ViewedFailure, ViewedThing,
 };
+pub use wh_markers::{MarkerKind, RecordedMarker};
 pub use wh_times::{Lengths, TypeSum, duration_in};

@@ -5,14 +5,16 @@ ghost use Rattle.std.specs.List.{flat_map};
 ghost use Rattle.serde_json.specs.View.{view, members_view};
 ghost use Rattle.wh_json.specs.Fields.{list_in};
 ghost use Rattle.wh_view.specs.Details.{IsValueOf, AreTheirs, AreNamedOr, IsNamedText, AreMembers};
-ghost use Rattle.wh_view.specs.Details.{payload_list, named_text};
+ghost use Rattle.wh_markers.specs.Payloads.{payload_list};
+ghost use Rattle.wh_view.specs.Details.{named_text};
 ghost use Rattle.wh_view.specs.Each.{Each};
 
-use crate::details::{payload_list, value_text, value_texts};
+use crate::details::{value_text, value_texts};
 use serde_json::{Map, Value};
 use std::alloc::{AllocError, Global};
 use wh_events::{OutOfMemory, Text};
 use wh_json::list_in;
+use wh_markers::payload_list;
 
 /// Returns a list of one payload, as text.
 fn lone_payload(alloc: Global, value: &Value) -> Result<Vec<Text>, OutOfMemory>

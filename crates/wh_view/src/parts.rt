@@ -2,7 +2,7 @@
 
 ghost use Rattle.std.specs.Prelude.{◌≡◌};
 ghost use Rattle.wh_view.specs.Parts.{kind_of_thing, plain_part, part_of, rank, same_kind};
-ghost use Rattle.wh_view.specs.Parts.{is_answer, commanded_class, word_if, class_word, word_of_kind};
+ghost use Rattle.wh_view.specs.Parts.{is_answer, word_if};
 
 use crate::updates::step_named;
 use crate::view::{ThingKind, UpdateStep, ViewedEvent};
@@ -112,18 +112,6 @@ fn is_answer(step: Option<UpdateStep>) -> bool
     )
 }
 
-/// Returns whether an event of the class records what the workflow did in a task, if `named` says
-/// whether an event that is of no other class does.
-fn is_commanded_class(class: Class, named: bool) -> bool
-    ensures { result ≡ commanded_class class named }
-{
-    match class {
-        Class::Commanded => true,
-        Class::Inert => named,
-        Class::Start | Class::Task | Class::Outside | Class::Close => false,
-    }
-}
-
 impl ViewedEvent {
     ghost use Rattle.std.specs.Prelude.{◌≡◌};
     ghost use Rattle.wh_view.specs.Parts.{step_of, is_given, is_commanded, completes_task};
@@ -153,9 +141,13 @@ impl ViewedEvent {
     pub fn is_commanded(&self) -> bool
         ensures { result ≡ is_commanded self.now }
     {
-        match &self.read.kind {
-            Some(kind) => is_commanded_class(kind.class(), self.is_given()),
-            None => self.is_given(),
+        let Some(kind) = &self.read.kind else {
+            return self.is_given();
+        };
+        match kind.class() {
+            Class::Commanded => true,
+            Class::Inert => self.is_given(),
+            Class::Start | Class::Task | Class::Outside | Class::Close => false,
         }
     }
 
@@ -181,33 +173,40 @@ fn word_if(given: bool, step: Option<UpdateStep>) -> EventUse
     }
 }
 
-/// Returns how an event of the class concerns the workflow, the completion of a task aside; `rest`
-/// if its class does not say.
-fn class_word(class: Class, rest: EventUse) -> EventUse
-    ensures { result ≡ class_word class rest }
-{
-    match class {
-        Class::Start | Class::Outside => EventUse::Told,
-        Class::Commanded => EventUse::Gives,
-        Class::Inert => rest,
-        Class::Task | Class::Close => EventUse::Other,
-    }
-}
-
-/// Returns how an event of the kind concerns the workflow; `rest` if its kind does not say.
-fn word_of_kind(kind: &EventKind, rest: EventUse) -> EventUse
-    ensures { result ≡ word_of_kind kind.now rest }
-{
-    match kind {
-        EventKind::WorkflowTaskCompleted => EventUse::Completes,
-        EventKind::ActivityTaskStarted { .. } => EventUse::Other,
-        _ => class_word(kind.class(), rest),
-    }
-}
-
 impl ViewedEvent {
     ghost use Rattle.std.specs.Prelude.{◌≡◌};
-    ghost use Rattle.wh_view.specs.Parts.{word_of};
+    ghost use Rattle.wh_view.specs.Parts.{class_word, is_given, step_of, word_if, word_of, word_of_kind};
+
+    /// Returns how the event concerns its workflow if its kind does not say.
+    fn word_by_name(&self) -> EventUse
+        ensures { result ≡ word_if (is_given self.now) (step_of self.now) }
+    {
+        word_if(self.is_given(), self.update_step())
+    }
+
+    /// Returns how the event concerns its workflow as one of the class, the completion of a task
+    /// aside.
+    fn word_in(&self, class: Class) -> EventUse
+        ensures { result ≡ class_word class (word_if (is_given self.now) (step_of self.now)) }
+    {
+        match class {
+            Class::Start | Class::Outside => EventUse::Told,
+            Class::Commanded => EventUse::Gives,
+            Class::Inert => self.word_by_name(),
+            Class::Task | Class::Close => EventUse::Other,
+        }
+    }
+
+    /// Returns how the event concerns its workflow as one of the kind.
+    fn word_as(&self, kind: &EventKind) -> EventUse
+        ensures { result ≡ word_of_kind kind.now (word_if (is_given self.now) (step_of self.now)) }
+    {
+        match kind {
+            EventKind::WorkflowTaskCompleted => EventUse::Completes,
+            EventKind::ActivityTaskStarted { .. } => EventUse::Other,
+            _ => self.word_in(kind.class()),
+        }
+    }
 
     /// Returns how the event concerns its workflow. `Told` are the events that become an activation
     /// job of the next task, such as the start of the run, a signal, an update that was admitted,
@@ -217,10 +216,9 @@ impl ViewedEvent {
     pub fn word(&self) -> EventUse
         ensures { result ≡ word_of self.now }
     {
-        let rest = word_if(self.is_given(), self.update_step());
         match &self.read.kind {
-            Some(kind) => word_of_kind(kind, rest),
-            None => rest,
+            Some(kind) => self.word_as(kind),
+            None => self.word_by_name(),
         }
     }
 }

@@ -5,7 +5,7 @@ ghost use Rattle.serde_json.specs.View.{view};
 ghost use Rattle.wh_json.specs.Partial.{partial_event};
 ghost use Rattle.wh_view.specs.Views as views;
 
-use crate::attributes::{attributes_of, copy_text};
+use crate::attributes::attributes_of;
 use crate::details::{attempt_of, details_of, duration_of, failure_of, json_of, payload_texts};
 use crate::gathering::gather_all;
 use crate::runs::run_of;
@@ -16,6 +16,7 @@ use serde_json::Value;
 use std::alloc::Global;
 use wh_events::{EventNo, Items, OutOfMemory};
 use wh_json::{ReadFault, events_in, field, partial_event, read_document, text_of};
+use wh_markers::copy_text;
 
 /// Views one member of a history's list. `place` is its place, counted from 1, and `before` the
 /// number of the member before.

@@ -4,13 +4,14 @@ ghost use Rattle.std.specs.Prelude.{◌≡◌, IfOk, option_map};
 ghost use Rattle.serde_json.specs.View.{view};
 ghost use Rattle.wh_view.specs.Updates as updates;
 
-use crate::attributes::{copy_inner, copy_text, inner, inner_text};
+use crate::attributes::{copy_inner, inner, inner_text};
 use crate::details::first_text;
 use crate::view::{UpdateName, UpdateStep};
 use serde_json::Value;
 use std::alloc::Global;
 use wh_events::OutOfMemory;
 use wh_json::field;
+use wh_markers::copy_text;
 
 /// Returns the step that a type of this name stands for, in either of its spellings.
 #[tactic(auto, unfolding(crate::specs::Updates::step_named))]
@@ -73,11 +74,13 @@ pub(crate) fn arguments_in<'v>(attributes: Option<&'v Value>) -> Option<&'v Valu
     inner(request_in(attributes), "input", "args")
 }
 
-/// Returns the id of the update of which attributes tell.
-fn id_in<'v>(attributes: Option<&'v Value>) -> &'v str
+/// Returns the id of the update of which attributes tell that hold this request.
+fn id_in<'v>(attributes: Option<&'v Value>, request: Option<&'v Value>) -> &'v str
+    requires { option_map (λ v. view v.now) request
+        ≡ updates.request_in (option_map (λ v. view v.now) attributes) }
     ensures { result.now ≡ updates.id_in (option_map (λ v. view v.now) attributes.entry) }
 {
-    let asked = inner_text(request_in(attributes), "meta", "updateId");
+    let asked = inner_text(request, "meta", "updateId");
     let done = inner_text(attributes, "meta", "updateId");
     first_text(asked, done)
 }
@@ -89,7 +92,8 @@ pub(crate) fn update_of(
 ) -> Result<UpdateName, OutOfMemory>
     ensures { IfOk result (λ update. update ≡ updates.update_of (option_map (λ v. view v.now) attributes.entry)) }
 {
-    let id = copy_text(alloc, id_in(attributes))?;
-    let name = copy_inner(alloc, request_in(attributes), "input", "name")?;
+    let request = request_in(attributes);
+    let id = copy_text(alloc, id_in(attributes, request))?;
+    let name = copy_inner(alloc, request, "input", "name")?;
     Ok(UpdateName { id, name })
 }

@@ -2,6 +2,7 @@
 
 use wh_events::{EventNo, Items, Text};
 use wh_json::PartialEvent;
+use wh_markers::RecordedMarker;
 use wh_times::TypeSum;
 
 /// An event of a history, which may hold anything.
@@ -34,8 +35,9 @@ pub struct ViewedEvent {
     pub json: Text,
 }
 
-/// What the attributes of an event say of the workflow task that it comes from, of an update, and
-/// of a failure. Texts are empty if absent, as they are written otherwise.
+/// What the attributes of an event say of the workflow task that it comes from, of an update, of a
+/// failure, of a marker, and of another workflow. Texts are empty if absent, as they are written
+/// otherwise.
 #[derive(Drop)]
 pub struct EventDetails {
     /// The number of the event that completed the workflow task in which the workflow gave this one
@@ -48,6 +50,11 @@ pub struct EventDetails {
     pub failures: Items<ViewedFailure>,
     /// Why it ended, or was not tried again.
     pub ending: Ending,
+    /// What a marker records, by `markerName` and `details`.
+    pub marker: RecordedMarker,
+    /// The run id of the other workflow that it tells of (`runId` of `workflowExecution`), such as
+    /// a child that has started.
+    pub execution_run_id: Text,
 }
 
 /// The id and the name of an update, as far as an event of it tells them.

@@ -3,9 +3,8 @@ use Rattle.std.proofs.Common.{◌≡◌, ◌∙◌, ℕ, List, [], ◌∷◌, sy
 use Rattle.std.specs.List.{flat_map}
 use Rattle.std.specs.Str.{chars}
 use Rattle.wh_view_report.specs.Cut.{front, shown_bytes}
-use Rattle.wh_view_report.specs.JsonText.{json_char, json_text}
 
-map_same : (xs : List ℕ) → map (λ x. x) xs ≡ xs
+pub map_same : (xs : List ℕ) → map (λ x. x) xs ≡ xs
 map_same [] = refl
 map_same (x ∷ xs) = ap (λ ys. x ∷ ys) (map_same xs)
 
@@ -13,8 +12,3 @@ map_same (x ∷ xs) = ap (λ ys. x ∷ ys) (map_same xs)
 pub whole : (xs text : List ℕ) → map (λ x. x) xs ≡ take 80 (chars text) → flat_map shown_bytes xs ≡ front text
 unfolding front
 whole xs text e = ap (flat_map shown_bytes) (sym (map_same xs) ∙ e)
-
--- the same of a string of JSON
-pub whole_json : (xs text : List ℕ) → map (λ x. x) xs ≡ take 1_000 (chars text) → flat_map json_char xs ≡ json_text text
-unfolding json_text
-whole_json xs text e = ap (flat_map json_char) (sym (map_same xs) ∙ e)

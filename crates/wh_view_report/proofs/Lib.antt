@@ -1,2 +1,4 @@
-mod Fronts
+pub mod Fronts
 mod Numbered
+mod Plain
+mod Parts

@@ -5,9 +5,11 @@ pub mod Causes
 pub mod Run
 pub mod Waits
 pub mod Sums
-pub mod JsonText
-pub mod JsonParts
-pub mod JsonRun
-pub mod JsonSums
+pub mod Subjects
 pub mod Texts
-pub mod Json
+pub mod Digits
+pub mod Alike
+pub mod Folding
+pub mod Views
+pub mod Laws
+pub mod Private

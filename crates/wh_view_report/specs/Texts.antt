@@ -12,13 +12,14 @@ use Rattle.wh_view.specs.declared.view.UnsupportedKind.{UnsupportedKind}
 use Rattle.wh_view_report.specs.Cut.{cut, label_text}
 use Rattle.wh_view.specs.Parts.{completes_task}
 use Rattle.wh_view.specs.Things.{is_number}
-use Rattle.wh_view.specs.Lookups.{opening_of, event_id, event_name, event_type, task_of}
+use Rattle.wh_view.specs.Lookups.{event_name, event_type, task_of}
 use Rattle.wh_view_report.specs.Causes.{because_text, ending_text}
 use Rattle.wh_view_report.specs.Run.{run_lines}
 use Rattle.wh_view_report.specs.Spans.{duration_text, step_span}
+use Rattle.wh_view_report.specs.Subjects.{notes_text, subject_text}
 use Rattle.wh_view_report.specs.Sums.{sum_text}
 use Rattle.wh_view_report.specs.Waits.{waits_line}
-use Rattle.wh_view_report.specs.Words.{start_text, number_text, link_text, marker_name, told_mark, attempt_text}
+use Rattle.wh_view_report.specs.Words.{start_text, number_text, link_text, marker_name, told_mark}
 
 -- how many tasks are completed
 abbrev pub completed_count : List ViewedEvent → ℕ
@@ -70,18 +71,17 @@ value_line value = codes "      " ++ (cut value ++ 10 ∷ [])
 -- what is told of an event behind its time and its thing
 unfoldable pub tail_text : View → ViewedEvent → List ℕ
 tail_text view event =
-    step_span view event ++ (attempt_text event.attempt ++ (duration_text event.duration
+    step_span view event ++ (notes_text event ++ (duration_text event.duration
     ++ (because_text event ++ (ending_text event ++ label_text (codes ", ") (told_mark view event)))))
 
 -- the line of an event
 unfoldable pub event_line : View → ViewedEvent → List ℕ
 event_line view event =
     start_text view event ++ (cut (event_name event)
-    ++ (label_text (codes " ") (event_id (opening_of view event))
-    ++ (label_text (codes " ") (event_type (opening_of view event))
+    ++ (subject_text view event
     ++ (codes " " ++ (number_text event
     ++ (label_text (codes " ") event.moment
-    ++ (link_text view event ++ (tail_text view event ++ 10 ∷ []))))))))
+    ++ (link_text view event ++ (tail_text view event ++ 10 ∷ [])))))))
 
 -- the lines of an event
 abbrev pub event_text : View → ViewedEvent → List ℕ

@@ -27,8 +27,9 @@ fn is_unseen(c: char) -> bool
     )
 }
 
-/// Returns a character as it is shown.
-pub(crate) fn shown_char(c: char) -> char
+/// Returns a character as it is shown: `?` for a control character, and for one that changes the
+/// direction of writing.
+pub fn shown_char(c: char) -> char
     ensures { result ≡ shown_char c }
 {
     if is_unseen(c) { '?' } else { c }
@@ -85,7 +86,7 @@ impl fmt::Display for Rest {
 /// The first 80 characters of a text, with `?` for each control character and each one that changes
 /// the direction of writing. If the text is longer, the number of its characters follows.
 #[derive(Drop)]
-pub(crate) struct Excerpt<'a>(pub(crate) &'a str);
+pub struct Excerpt<'a>(pub &'a str);
 
 impl fmt::Display for Excerpt<'_> {
     ghost output = { λ t. Some (cut t.0.now) };

@@ -167,7 +167,7 @@ fn is_at(step: Option<usize>, index: usize) -> bool
 
 /// Returns how long a thing took, in milliseconds: from its start to its end, or from its opening
 /// if it was not started. `None` if it has not ended.
-pub(crate) fn time_taken(view: &View, thing: &ViewedThing) -> Option<u64>
+pub fn time_taken(view: &View, thing: &ViewedThing) -> Option<u64>
     ensures { result ≡ spans.time_taken view.now thing.now }
 {
     if thing.started.is_some() {

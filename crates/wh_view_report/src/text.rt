@@ -1,4 +1,4 @@
-//! Writes a view as text, one line for each event.
+//! Writes the lines of a view: one for each event of some tasks, and those above and below.
 
 ghost use Rattle.std.specs.Prelude.{◌≡◌, OnOk, Some, option_map, slice_get};
 ghost use Rattle.std.specs.List.{flat_map};
@@ -9,9 +9,10 @@ use crate::causes::{Because, EndingText};
 use crate::cut::{Excerpt, LabelText};
 use crate::run::write_run;
 use crate::spans::{DurationText, StepSpan};
+use crate::subjects::{Notes, Subject};
 use crate::sums::write_sums;
 use crate::waits::write_waits;
-use crate::words::{Attempt, Link, Number, Start, marker_name, told_mark};
+use crate::words::{Link, Number, Start, marker_name, told_mark};
 use std::io::Write;
 use std::{fmt, io};
 use wh_console::Selection;
@@ -79,8 +80,11 @@ fn span_around(task: usize) -> TaskRange
     }
 }
 
-/// Returns the tasks that are selected.
-pub(crate) fn span_of(view: &View, selection: &Selection) -> TaskRange
+/// Returns the tasks that are selected: all of them, the last ones up to those of the events after
+/// the last completed task, or the task of an event with the two before and the two after it. If
+/// tasks around an event are selected and no event has its number, that is task 0: what is recorded
+/// of the workflow before a task was completed.
+pub fn span_of(view: &View, selection: &Selection) -> TaskRange
     ensures { result ≡ texts.span_of view.now selection.now }
 {
     let events = view.events.get();
@@ -101,7 +105,7 @@ pub(crate) fn span_of(view: &View, selection: &Selection) -> TaskRange
 }
 
 /// Returns whether an event belongs to one of the tasks.
-pub(crate) fn is_within(view: &View, span: TaskRange, event: &ViewedEvent) -> bool
+pub fn is_within(view: &View, span: TaskRange, event: &ViewedEvent) -> bool
     ensures { result ≡ texts.is_within view.now span event.now }
 {
     let task = view.task_of(event);
@@ -131,7 +135,7 @@ pub fn is_quiet(event: &ViewedEvent) -> bool
 }
 
 /// What is told of an event behind its time and its thing: how long the thing waited or took, its
-/// attempt, its duration, why it failed, and what is wrong with it.
+/// attempt, what else is noted, its duration, why it failed, and what is wrong with it.
 #[derive(Drop)]
 struct EventTail<'a>(&'a View, &'a ViewedEvent);
 
@@ -142,12 +146,12 @@ impl fmt::Display for EventTail<'_> {
     fn fmt<W: fmt::Write>(&self, f: &mut fmt::Formatter<W>) -> fmt::Result {
         let event = self.1;
         let span = StepSpan(self.0, event);
-        let attempt = Attempt(event.attempt);
+        let notes = Notes(event);
         let duration = DurationText(event.duration.get());
         let because = Because(event);
         let ending = EndingText(event);
         let mark = LabelText(", ", told_mark(self.0, event));
-        write!(f, "{span}{attempt}{duration}{because}{ending}{mark}")
+        write!(f, "{span}{notes}{duration}{because}{ending}{mark}")
     }
 }
 
@@ -157,23 +161,25 @@ fn write_line<O: Write>(view: &View, event: &ViewedEvent, writer: &mut O) -> io:
     ensures { OnOk result
         (Appends (O.contents writer.old) (O.contents writer.new) (texts.event_line view.now event.now)) }
 {
-    let opening = view.opening_of(event);
     let start = Start(view, event);
     let name = Excerpt(event.name());
-    let id = LabelText(" ", opening.id());
-    let kind = LabelText(" ", opening.type_name());
+    let subject = Subject(view, event);
     let number = Number(event);
     let moment = LabelText(" ", event.moment.get());
     let link = Link(view, event);
     let tail = EventTail(view, event);
     write!(
         writer,
-        "{start}{name}{id}{kind} {number}{moment}{link}{tail}\n"
+        "{start}{name}{subject} {number}{moment}{link}{tail}\n"
     )
 }
 
 /// Writes the lines of an event: one for the event itself, and one for each of its values.
-fn write_event<O: Write>(view: &View, event: &ViewedEvent, writer: &mut O) -> io::Result<()>
+pub(crate) fn write_event<O: Write>(
+    view: &View,
+    event: &ViewedEvent,
+    writer: &mut O,
+) -> io::Result<()>
     ensures { OnOk result
         (Appends (O.contents writer.old) (O.contents writer.new) (texts.event_text view.now event.now)) }
 {
@@ -305,7 +311,7 @@ fn write_kinds<O: Write>(view: &View, writer: &mut O) -> io::Result<()>
 }
 
 /// Writes the first lines: the counts, the names of the run, and whether it is open.
-fn write_top<O: Write>(view: &View, writer: &mut O) -> io::Result<()>
+pub(crate) fn write_top<O: Write>(view: &View, writer: &mut O) -> io::Result<()>
     ensures { OnOk result (Appends (O.contents writer.old) (O.contents writer.new) (texts.top_text view.now)) }
 {
     write_head(view, writer)?;
@@ -385,7 +391,7 @@ fn write_state<O: Write>(view: &View, writer: &mut O) -> io::Result<()>
 
 /// Writes the last lines: what can't be replayed, what an open run waits for, and what the things of
 /// each type come to.
-fn write_bottom<O: Write>(view: &View, writer: &mut O) -> io::Result<()>
+pub(crate) fn write_bottom<O: Write>(view: &View, writer: &mut O) -> io::Result<()>
     ensures { OnOk result (Appends (O.contents writer.old) (O.contents writer.new) (texts.bottom_text view.now)) }
 {
     write_kinds(view, writer)?;
@@ -412,7 +418,7 @@ fn write_rest<O: Write>(view: &View, span: TaskRange, writer: &mut O) -> io::Res
 
 /// Writes the text with some tasks.
 #[tactic(auto, unfolding(crate::specs::Texts::span_text))]
-fn write_span<O: Write>(
+pub(crate) fn write_span<O: Write>(
     view: &View,
     selection: &Selection,
     span: TaskRange,
@@ -423,43 +429,4 @@ fn write_span<O: Write>(
 {
     write_front(view, selection, writer)?;
     write_rest(view, span, writer)
-}
-
-/// Writes a view as text. The first lines have
-/// - the workflow type and the counts;
-/// - the workflow id, the run id, the Task Queue and the parent of the run, as far as its first
-///   event tells them;
-/// - `Running`, or how the run was closed, by which event, and after how long.
-///
-/// If tasks around an event are selected and no event has its number, the next line says so. Then
-/// each event of the selected tasks has a line, in the order of the history, except
-/// `WorkflowTaskScheduled` and `WorkflowTaskStarted`:
-/// - `  told TYPE ..` for an event that becomes an activation job of the next task,
-/// - `task N: WorkflowTaskCompleted ..` for the completion of a task,
-/// - `  gives TYPE ..` for an event that records what the workflow did in that task.
-///
-/// After the type come the id and the type of the event's thing, its number as `(event N)`, its
-/// time as the history writes it, the events that started, canceled, ended or opened the thing, how
-/// long the thing waited for its start or took from there to its end, the attempt, the duration of
-/// a timer, why something failed, with the causes of that, and what is wrong with the event. Each
-/// value of the event follows on a line of its own. Of a text the first 80 characters are shown; if
-/// it is longer, the number of its characters follows. The next line says how many events belong to
-/// other tasks, if there are some. If tasks around an event are selected and no event has its
-/// number, these are all events but those of tasks that were completed before the first one.
-///
-/// Then each type, or name of markers, that the reader of histories does not support has a line,
-/// with the number of its events and the number of the first one. If the run is open, the next line
-/// says what it waits for. The last lines are of the types of its activities and child workflows,
-/// and one of its timers, in the order of the first of each: how many there are, how many of them
-/// failed and how many are open, the median of their times from opening to end, the longest of
-/// these, and by what event that one was opened. All these are of the whole run, whichever tasks are
-/// selected.
-///
-/// After an error some of the text may have been written.
-pub fn write_view<O: Write>(view: &View, selection: Selection, writer: &mut O) -> io::Result<()>
-    ensures { OnOk result
-        (Appends (O.contents writer.old) (O.contents writer.new) (texts.view_text view.now selection)) }
-{
-    let span = span_of(view, &selection);
-    write_span(view, &selection, span, writer)
 }

@@ -135,7 +135,7 @@ pub fn mark_of(view: &View, event: &ViewedEvent) -> &'static str
 
 /// Returns the name of a marker whose name is not supported; empty for an event of another type
 /// that is not.
-pub(crate) fn marker_name(event: &ViewedEvent) -> &str
+pub fn marker_name(event: &ViewedEvent) -> &str
     ensures { result.now ≡ marker_name event.now }
 {
     match &event.read.kind {

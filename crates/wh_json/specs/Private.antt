@@ -1,0 +1,2 @@
+-- What no contract of a public item cites: only those of private functions.
+pub mod PartialEvents

@@ -1,0 +1,5 @@
+pub mod Payloads
+pub mod Scalars
+pub mod Forms
+pub mod Markers
+pub mod Laws

@@ -1,9 +1,0 @@
-use Rattle.std.specs.List.{flat_map}
-use Rattle.std.specs.Fmt.{HasWritten, IsPlainFormatter}
-use Rattle.wh_view_report.specs.JsonText.{json_char}
-use Rattle.wh_view_report.proofs.json_text.write_json_text.Given as goal
-
--- the characters so far have been written
-abbrev pub invariant-loop-c : goal.invariant-loop-c
-invariant-loop-c g l =
-    IsPlainFormatter l.initial.f → HasWritten g.W.Write.write_str_gives l.initial.f (flat_map json_char l.yielded) l.f
