@@ -1,13 +1,13 @@
 -- The tags of a picture are those of the picture without its texts.
-use Rattle.std.proofs.Common.{◌≡◌, ◌+◌, ◌-◌, ℕ, Bool, true, false, cond, Option, Some, None, List, [], ◌∷◌, map, drop, length, refl, ap, min}
+use Rattle.std.proofs.Common.{◌≡◌, ◌+◌, ◌-◌, ℕ, Bool, true, false, cond, Option, Some, None, List, [], ◌∷◌, map, drop, length, refl, ap, ◌∙◌, min}
 use Rattle.std.proofs.lemmas.List.{length-map, take-map, drop-map}
 use Rattle.std.proofs.lemmas.List.Folds.{fold-map}
-use Rattle.std.specs.Prelude.{◌%◌, nat_le, nat_lt, ◌==◌, count_by, codes}
+use Rattle.std.specs.Prelude.{◌%◌, nat_le, nat_lt, ◌==◌, not, count_by, codes, decimal}
 use Rattle.std.specs.List.{list_all}
 use Rattle.std.specs.Option.{option_map}
-use Rattle.wh_html.specs.Html.{Html, plain, hole}
-use Rattle.wh_html.proofs.Alike.{Alike, is_inner, last, words, texts, both, none, mark, word, text, num, each-alike, each-same}
-use Rattle.wh_html.proofs.Inner.{time, lapse, last-time, last-lapse}
+use Rattle.wh_html.specs.Html.{Html, plain, hole, number}
+use Rattle.wh_html.proofs.Alike.{Alike, is_inner, last, words, texts, both, none, mark, word, text, num, each-alike, each-same, decimal-inner}
+use Rattle.wh_html.proofs.Inner.{time, lapse, last-time}
 use Rattle.wh_html.specs.declared.axis.Gap.{Gap}
 use Rattle.wh_html.specs.declared.axis.Stop.{Stop}
 use Rattle.wh_html.specs.declared.page.Kind.{Kind}
@@ -17,9 +17,9 @@ use Rattle.wh_html.specs.declared.page.Page.{Page}
 use Rattle.wh_html.specs.declared.page.RowPart.{RowPart}
 use Rattle.wh_html.specs.declared.page.RowPart.TheVariants.{Alone, First, Later}
 use Rattle.wh_html.specs.declared.page.Task.{Task}
-use Rattle.wh_html.specs.Views.{left_out, shown, middle, shown_tasks}
+use Rattle.wh_html.specs.Views.{left_out, shown, is_open, tasks_before, first_shown, shown_tasks}
 use Rattle.wh_html.specs.Without.{without_lane, without_task, without_texts}
-use Rattle.wh_html.specs.Lanes.{is_hit, event_html, after_html, thing_html, label_html, title_html, bar_html, bars_html, is_at_once, sign_html, classes_html, shared_label_html, said_html, count_html, counts_html, room_class, ground_html, row_html, row_part_html, part_html, lane_html}
+use Rattle.wh_html.specs.Lanes.{is_hit, event_html, span_html, spans_html, thing_html, label_html, title_html, bar_html, bars_html, is_at_once, sign_html, cancel_html, classes_html, shared_label_html, said_html, count_html, times_html, counts_html, room_class, ground_html, row_html, row_part_html, part_html, lane_html}
 use Rattle.wh_html.specs.Lanes.{top_of}
 use Rattle.wh_html.specs.Pictures.{undrawn_html, opening_html, gap_word_html, mark_at_html, before_html, stop_html, first_time, tick_html, fault_html, picture_html}
 use Rattle.wh_html.specs.Words.{kind_word}
@@ -34,9 +34,13 @@ event-alike : (word-of : List ℕ) (moment : Option Moment) → list_all is_inne
 event-alike w None e = none
 event-alike w (Some moment) e = word _ e (mark _ (num _ (mark _ (last-time _))))
 
-after-alike : (opened : Moment) (ended : Option Moment) → IsClosed (after_html opened ended)
-after-alike opened None = none
-after-alike opened (Some ended) = mark _ (last-lapse _)
+span-alike : (word-of : List ℕ) (span : Option (List ℕ)) → list_all is_inner word-of ≡ true
+    → Alike false false (span_html word-of span) (span_html word-of (option_map (λ _. []) span))
+span-alike w None e = none
+span-alike w (Some span) e = word _ e (texts _ _ _)
+
+spans-alike : (waited took : Option (List ℕ)) → Alike false false (spans_html waited took) (spans_html (option_map (λ _. []) waited) (option_map (λ _. []) took))
+spans-alike waited took = both (span-alike _ waited refl) (span-alike _ took refl)
 
 thing-alike : (type_name : Option (List ℕ)) (name : List ℕ) → Alike false false (thing_html type_name name) (thing_html (option_map (λ _. []) type_name) [])
 thing-alike None name = texts _ _ _
@@ -50,7 +54,7 @@ title-alike : (lane : Lane) → Alike false false (title_html lane) (title_html 
 unfolding title_html
 title-alike lane =
     mark _ (word _ (kind-inner lane.kind) (mark _ (both (thing-alike lane.type_name lane.name) (mark _ (both (event-alike _ (Some lane.opened) refl)
-    (both (event-alike _ lane.started refl) (both (event-alike _ lane.ended refl) (both (after-alike lane.opened lane.ended)
+    (both (event-alike _ lane.started refl) (both (event-alike _ lane.ended refl) (both (spans-alike lane.waited lane.took)
     (mark _ (text _ _ _ (last _)))))))))))
 
 bar-alike : (class : List ℕ) (from to : ℕ) → list_all is_inner class ≡ true → IsClosed (bar_html class from to)
@@ -72,6 +76,10 @@ pub classes-alike : (lane : Lane) (fault : Option Moment) (s : Bool) → Alike s
 classes-alike lane fault true = word _ (kind-inner lane.kind) (mark _ (word _ (outcome-inner lane.outcome) (words _ (hit-inner (is_hit lane fault)))))
 classes-alike lane fault false = word _ (kind-inner lane.kind) (mark _ (word _ (outcome-inner lane.outcome) (words _ (hit-inner (is_hit lane fault)))))
 
+cancel-alike : (stops : List Stop) (moment : Option Moment) → IsClosed (cancel_html stops moment)
+cancel-alike stops None = none
+cancel-alike stops (Some moment) = mark _ (num _ (last _))
+
 said-alike : (words-of : List ℕ) → Alike false false (said_html words-of) (said_html [])
 said-alike w = mark _ (text _ _ _ (last _))
 
@@ -86,9 +94,16 @@ shared-label-alike kind None name = by (is_at_once kind)
 count-alike : (outcome : List ℕ) (count : ℕ) → list_all is_inner outcome ≡ true → IsClosed (count_html outcome count)
 count-alike outcome count e = choose (count == 0) _ _ none (mark _ (num _ (mark _ (words _ e))))
 
-counts-alike : (things failed pending : ℕ) → IsClosed (counts_html things failed pending)
-counts-alike things failed pending =
-    mark _ (num _ (mark _ (both (count-alike _ failed refl) (both (count-alike _ pending refl) (last _)))))
+last-number : (n : ℕ) → IsClosed (number n)
+last-number n = words (decimal n) (decimal-inner n)
+
+times-alike : (things drawn : ℕ) → IsClosed (times_html things drawn)
+times-alike things drawn =
+    choose (things == drawn) _ _ (num _ (last _)) (num _ (mark _ (last-number things)))
+
+counts-alike : (things drawn failed pending : ℕ) → IsClosed (counts_html things drawn failed pending)
+counts-alike things drawn failed pending =
+    mark _ (both (times-alike things drawn) (both (count-alike _ failed refl) (both (count-alike _ pending refl) (last _))))
 
 room-inner : (row : ℕ) → list_all is_inner (room_class row) ≡ true
 room-inner row = by (row % 2 == 0)
@@ -102,8 +117,8 @@ row-alike row h k = both (mark _ (word _ (room-inner row) (last _))) (mark _ (bo
 
 row-part-alike : (part : RowPart) (lane : Lane) → Alike false false (row_part_html part lane) (row_part_html part (without_lane lane))
 row-part-alike Alone lane = row-alike lane.row (label-alike lane.type_name lane.name) (said-alike lane.words)
-row-part-alike (First things failed pending) lane =
-    row-alike lane.row (shared-label-alike lane.kind lane.type_name lane.name) (counts-alike things failed pending)
+row-part-alike (First things drawn failed pending) lane =
+    row-alike lane.row (shared-label-alike lane.kind lane.type_name lane.name) (counts-alike things drawn failed pending)
 row-part-alike Later lane = none
 
 part-alike : (lane : Lane) → Alike false false (part_html lane) (part_html (without_lane lane))
@@ -114,7 +129,7 @@ lane-alike : (fault : Option Moment) (stops : List Stop) (lane : Lane) → Alike
 unfolding lane_html
 lane-alike fault stops lane =
     mark _ (both (classes-alike lane fault true) (mark _ (num _ (mark _ (both (title-alike lane) (both (part-alike lane)
-    (both (sign-alike stops lane) (last _))))))))
+    (both (sign-alike stops lane) (both (cancel-alike stops lane.cancelling) (last _)))))))))
 
 -- the picture beside them
 gap-word-alike : (from to millis : ℕ) → IsClosed (gap_word_html from to millis)
@@ -158,14 +173,29 @@ picture-alike fault stops lanes rows total tasks =
 
 -- the same tasks are shown without their texts
 module _ {A : Type 0} where
+  -- how many of items pass
   count-map : (p : A → Bool) (g : A → A) (xs : List A) → count_by p (map g xs) ≡ count_by (λ x. p (g x)) xs
   count-map p g xs = fold-map (λ n x. n + cond (p x) 1 0) g 0 xs
 
   shown-map : (g : A → A) (left : ℕ) (xs : List A) → shown left (map g xs) ≡ map g (shown left xs)
   shown-map g left xs = rw (drop-map g left xs, take-map g 300 (drop left xs)) refl
 
+before-same : (tasks : List Task) (fault : Option Moment) (running : Bool) → tasks_before (map without_task tasks) fault running ≡ tasks_before tasks fault running
+before-same tasks (Some fault) running = count-map (λ task. nat_lt task.started.event fault.event) without_task tasks
+before-same tasks None running = ap (λ n. cond running n 0) (length-map tasks without_task)
+
+open-same : (page : Page) → is_open (without_texts page) ≡ is_open page
+unfolding without_texts
+open-same page = let blank : List ℕ → List ℕ = λ _. [] in ap (λ n. not (n == 0)) (length-map page.waits blank)
+
+pub first-same : (page : Page) → first_shown (without_texts page) ≡ first_shown page
+unfolding first_shown without_texts
+first-same page =
+    ap (λ n. left_out n (tasks_before (map without_task page.tasks) page.fault (is_open (without_texts page)))) (length-map page.tasks without_task)
+    ∙ ap (λ running. left_out (length page.tasks) (tasks_before (map without_task page.tasks) page.fault running)) (open-same page)
+    ∙ ap (left_out (length page.tasks)) (before-same page.tasks page.fault (is_open page))
+
 pub tasks-shown : (page : Page) → shown_tasks (without_texts page) ≡ map without_task (shown_tasks page)
 unfolding shown_tasks without_texts
 tasks-shown page =
-    rw (count-map (λ task. nat_lt task.started.event (middle page.fault)) without_task page.tasks, length-map page.tasks without_task)
-    (shown-map without_task _ page.tasks)
+    ap (λ left. shown left (map without_task page.tasks)) (first-same page) ∙ shown-map without_task (first_shown page) page.tasks

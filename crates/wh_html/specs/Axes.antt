@@ -31,7 +31,8 @@ moment_times (Some moment) = moment.millis ∷ []
 
 -- the times of a thing
 abbrev pub lane_times : Lane → List ℕ
-lane_times lane = lane.opened.millis ∷ (moment_times lane.started ++ moment_times lane.ended)
+lane_times lane =
+    lane.opened.millis ∷ (moment_times lane.started ++ (moment_times lane.cancelling ++ moment_times lane.ended))
 
 -- the times of all that a page shows
 unfoldable pub times_shown : List Lane → List Task → Option Moment → List ℕ

@@ -9,7 +9,7 @@ use Rattle.wh_html.specs.declared.page.RowPart.{RowPart}
 use Rattle.wh_html.specs.declared.page.RowPart.TheVariants.{Alone, First, Later}
 use Rattle.wh_html.specs.Axes.{place_of, right}
 use Rattle.wh_html.specs.Words.{kind_word, outcome_class}
-use Rattle.wh_html.specs.Html.{Html, nothing, markup, plain, hole, ◌⊕◌, number, stamp, span}
+use Rattle.wh_html.specs.Html.{Html, nothing, markup, plain, hole, ◌⊕◌, number, stamp}
 
 -- the class of the style sheet that marks what has the fault
 abbrev pub hit_class : Bool → List ℕ
@@ -32,17 +32,21 @@ event_html words None = nothing
 event_html words (Some moment) =
     plain words ⊕ markup (codes " by event ") ⊕ number moment.event ⊕ markup (codes ", ") ⊕ stamp moment.millis
 
--- how long a thing took, if it ended
-abbrev pub after_html : (opened : Moment) → Option Moment → Html
-after_html opened None = nothing
-after_html opened (Some ended) = markup (codes ", after ") ⊕ span (ended.millis - opened.millis)
+-- how long something took, after the words for it, if that is known
+abbrev pub span_html : (words : List ℕ) → Option (List ℕ) → Html
+span_html words None = nothing
+span_html words (Some span) = plain words ⊕ hole 100 span
+
+-- how long a thing waited for its start, and how long it took
+abbrev pub spans_html : (waited took : Option (List ℕ)) → Html
+spans_html waited took = span_html (codes ", waited ") waited ⊕ span_html (codes ", took ") took
 
 -- the type of a thing, if it has one, and its id
 abbrev pub thing_html : Option (List ℕ) → List ℕ → Html
 thing_html None name = hole 100 name
 thing_html (Some type_name) name = hole 100 type_name ⊕ markup (codes " ") ⊕ hole 100 name
 
--- the title of a thing: its kind, its type, its id and its events
+-- the title of a thing: its kind, its type, its id, its events, how long it waited and took, and its outcome
 unfoldable pub title_html : Lane → Html
 title_html lane =
     markup (codes "<title>")
@@ -53,7 +57,7 @@ title_html lane =
     ⊕ event_html (codes "opened") (Some lane.opened)
     ⊕ event_html (codes "; started") lane.started
     ⊕ event_html (codes "; ended") lane.ended
-    ⊕ after_html lane.opened lane.ended
+    ⊕ spans_html lane.waited lane.took
     ⊕ markup (codes ": ")
     ⊕ hole 100 lane.words
     ⊕ markup (codes "</title>")
@@ -102,6 +106,14 @@ abbrev pub sign_html : List Stop → Lane → Html
 sign_html stops lane =
     if is_at_once lane.kind then dot_html stops lane.opened else bars_html stops lane.opened lane.started lane.ended
 
+-- a stroke where the cancellation of a thing was requested, if it was
+abbrev pub cancel_html : List Stop → Option Moment → Html
+cancel_html stops None = nothing
+cancel_html stops (Some moment) =
+    markup (codes "<rect class=\"cancel\" x=\"")
+    ⊕ number (place_of stops moment.millis)
+    ⊕ markup (codes "\" y=\"1\" width=\"3\" height=\"20\"/>")
+
 -- the classes of a thing in the style sheet: its kind, its outcome, and whether it has the fault
 abbrev pub classes_html : Lane → Option Moment → Html
 classes_html lane fault =
@@ -131,10 +143,16 @@ abbrev pub count_html : (outcome : List ℕ) → ℕ → Html
 count_html outcome count =
     if count == 0 then nothing else (markup (codes ", ") ⊕ number count ⊕ markup (codes " ") ⊕ plain outcome)
 
--- how many things share a row, beside their bars
-abbrev pub counts_html : (things failed pending : ℕ) → Html
-counts_html things failed pending =
-    markup (codes "<text class=\"said\" x=\"846\" y=\"15\">") ⊕ number things ⊕ markup (codes " times")
+-- of how many things a row tells, and how many of them are drawn, if not all are
+abbrev pub times_html : (things drawn : ℕ) → Html
+times_html things drawn =
+    if things == drawn then (number things ⊕ markup (codes " times"))
+    else (number drawn ⊕ markup (codes " of ") ⊕ number things)
+
+-- of how many things a row tells, beside the bars
+abbrev pub counts_html : (things drawn failed pending : ℕ) → Html
+counts_html things drawn failed pending =
+    markup (codes "<text class=\"said\" x=\"846\" y=\"15\">") ⊕ times_html things drawn
     ⊕ count_html (codes "failed") failed ⊕ count_html (codes "open") pending ⊕ markup (codes "</text>")
 
 -- the classes of the ground of a row
@@ -153,8 +171,8 @@ row_html row label said =
 -- what a thing says of its row, by how it stands there
 abbrev pub row_part_html : RowPart → Lane → Html
 row_part_html Alone lane = row_html lane.row (label_html lane.type_name lane.name) (said_html lane.words)
-row_part_html (First things failed pending) lane =
-    row_html lane.row (shared_label_html lane.kind lane.type_name lane.name) (counts_html things failed pending)
+row_part_html (First things drawn failed pending) lane =
+    row_html lane.row (shared_label_html lane.kind lane.type_name lane.name) (counts_html things drawn failed pending)
 row_part_html Later lane = nothing
 
 -- what a thing says of its row: its own label and outcome, those of all that share the row, or nothing if an earlier one
@@ -177,4 +195,5 @@ lane_html fault stops lane =
     ⊕ title_html lane
     ⊕ part_html lane
     ⊕ sign_html stops lane
+    ⊕ cancel_html stops lane.cancelling
     ⊕ markup (codes "</g>\n")

@@ -14,7 +14,7 @@ abbrev pub undrawn_html : (lanes total : ℕ) → Html
 undrawn_html lanes total =
     if lanes == total then nothing
     else (markup (codes "<p class=\"soft\">") ⊕ number lanes ⊕ markup (codes " of ") ⊕ number total
-    ⊕ markup (codes " things are drawn: those of the fault, those that failed or are open, and of the others the slowest.</p>\n"))
+    ⊕ markup (codes " things are drawn: first those of the fault, then those that failed, then those that are open, and of the others the slowest.</p>\n"))
 
 -- the beginning of the picture
 abbrev pub opening_html : (lanes rows total : ℕ) → Html
@@ -123,7 +123,7 @@ fault_html stops bottom (Some fault) =
 -- the end of the picture, with the key to its signs
 abbrev pub closing_html : Html
 closing_html =
-    markup (codes "</svg>\n</div>\n<p class=\"soft key\"><span class=\"activity\">activity</span><span class=\"timer\">timer</span><span class=\"child\">child</span><span class=\"signal\">signal</span><span class=\"request\">request</span><span class=\"marker\">marker</span><span class=\"none\">pale: not started yet, still open, or canceled</span><span class=\"none\">red edge: failed</span><span class=\"none\">Many things of a type share a row.</span><span class=\"none\">Time runs to the right, with some room for each step; hatched: longer than it is drawn.</span></p>\n</section>\n")
+    markup (codes "</svg>\n</div>\n<p class=\"soft key\"><span class=\"activity\">activity</span><span class=\"timer\">timer</span><span class=\"child\">child</span><span class=\"signal\">signal</span><span class=\"request\">request</span><span class=\"marker\">marker</span><span class=\"none\">pale: not started yet, still open, or canceled</span><span class=\"none\">red edge: failed</span><span class=\"none\">upright stroke: its cancellation was requested</span><span class=\"none\">Many things of a type share a row; 8 of 412: of 412 in all, 8 are drawn.</span><span class=\"none\">Time runs to the right, with some room for each step; hatched: longer than it is drawn.</span></p>\n</section>\n")
 
 -- the picture of things in so many rows, out of so many things in all, and of tasks
 unfoldable pub picture_html : Option Moment → List Stop → List Lane → (rows total : ℕ) → List Task → Html

@@ -84,6 +84,7 @@ fn push_lane(times: &mut Vec<u64>, lane: &Lane) -> Result<(), OutOfMemory>
 {
     push_moment(times, Some(lane.opened))?;
     push_moment(times, lane.started)?;
+    push_moment(times, lane.cancelling)?;
     push_moment(times, lane.ended)
 }
 

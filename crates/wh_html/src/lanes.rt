@@ -1,15 +1,15 @@
 //! Writes the things of the picture.
 
-ghost use Rattle.std.specs.Prelude.{◌≡◌, ◌-◌, Some};
+ghost use Rattle.std.specs.Prelude.{◌≡◌, Some};
 ghost use Rattle.wh_html.specs.Html.{bytes, each};
 ghost use Rattle.wh_html.specs.Axes.{place_of};
-ghost use Rattle.wh_html.specs.Lanes.{hit_class, is_at, is_hit, event_html, after_html, thing_html, title_html, bar_html, end_of, bars_html, dot_html, is_at_once, sign_html, classes_html};
-ghost use Rattle.wh_html.specs.Lanes.{label_html, shared_label_html, said_html, count_html, counts_html, room_class, ground_html, part_html, top_of, lane_html};
+ghost use Rattle.wh_html.specs.Lanes.{hit_class, is_at, is_hit, event_html, span_html, spans_html, thing_html, title_html, bar_html, end_of, bars_html, dot_html, is_at_once, sign_html, cancel_html, classes_html};
+ghost use Rattle.wh_html.specs.Lanes.{label_html, shared_label_html, said_html, count_html, times_html, counts_html, room_class, ground_html, part_html, top_of, lane_html};
 
 use crate::axis::{RIGHT, Stop, place_of};
 use crate::escaping::Escaped;
 use crate::page::{Kind, Lane, Moment, RowPart};
-use crate::times::{Stamp, TimeSpan};
+use crate::times::Stamp;
 use std::fmt;
 use wh_events::Text;
 
@@ -58,13 +58,6 @@ pub(crate) fn hit_class(hit: bool) -> &'static str
     if hit { " hit" } else { "" }
 }
 
-/// Returns how long it took from one event to another; 0 if the second is earlier.
-pub fn time_between(from: Moment, to: Moment) -> TimeSpan
-    ensures { result.0 ≡ to.millis - from.millis }
-{
-    TimeSpan(to.millis.saturating_sub(from.millis))
-}
-
 /// An event and its time, after the words for what happened.
 #[derive(Clone, Copy)]
 struct EventWords(&'static str, Option<Moment>);
@@ -85,21 +78,39 @@ impl fmt::Display for EventWords {
     }
 }
 
-/// How long a thing took, if it ended.
-#[derive(Clone, Copy)]
-struct After(Moment, Option<Moment>);
+/// How long something took, after the words for it, if that is known.
+#[derive(Drop)]
+struct SpanWords<'a>(&'static str, &'a Option<Text>);
 
-impl fmt::Display for After {
-    ghost output = { λ a. Some (bytes (after_html a.0 a.1)) };
+impl fmt::Display for SpanWords<'_> {
+    ghost output = { λ s. Some (bytes (span_html s.0.now s.1.now)) };
 
     fn fmt<W: fmt::Write>(&self, f: &mut fmt::Formatter<W>) -> fmt::Result {
         match self.1 {
-            Some(ended) => {
-                let span = time_between(self.0, ended);
-                write!(f, ", after {span}")
+            Some(span) => {
+                let words = self.0;
+                let span = Escaped {
+                    text: span,
+                    most: 100,
+                };
+                write!(f, "{words}{span}")
             }
             None => Ok(()),
         }
+    }
+}
+
+/// How long a thing waited for its start, and how long it took.
+#[derive(Drop)]
+struct ThingSpans<'a>(&'a Lane);
+
+impl fmt::Display for ThingSpans<'_> {
+    ghost output = { λ s. Some (bytes (spans_html s.0.now.waited s.0.now.took)) };
+
+    fn fmt<W: fmt::Write>(&self, f: &mut fmt::Formatter<W>) -> fmt::Result {
+        let waited = SpanWords(", waited ", &self.0.waited);
+        let took = SpanWords(", took ", &self.0.took);
+        write!(f, "{waited}{took}")
     }
 }
 
@@ -143,14 +154,14 @@ impl fmt::Display for Title<'_> {
         let opened = EventWords("opened", Some(lane.opened));
         let started = EventWords("; started", lane.started);
         let ended = EventWords("; ended", lane.ended);
-        let after = After(lane.opened, lane.ended);
+        let spans = ThingSpans(lane);
         let words = Escaped {
             text: &lane.words,
             most: 100,
         };
         write!(
             f,
-            "<title>{kind} {name}: {opened}{started}{ended}{after}: {words}</title>"
+            "<title>{kind} {name}: {opened}{started}{ended}{spans}: {words}</title>"
         )
     }
 }
@@ -245,6 +256,27 @@ impl fmt::Display for Sign<'_> {
         } else {
             let bars = Bars(self.0, self.1);
             write!(f, "{bars}")
+        }
+    }
+}
+
+/// A stroke where the cancellation of a thing was requested, if it was.
+#[derive(Drop)]
+struct CancelMark<'a>(&'a [Stop], Option<Moment>);
+
+impl fmt::Display for CancelMark<'_> {
+    ghost output = { λ m. Some (bytes (cancel_html m.0.now m.1)) };
+
+    fn fmt<W: fmt::Write>(&self, f: &mut fmt::Formatter<W>) -> fmt::Result {
+        match self.1 {
+            Some(moment) => {
+                let x = place_of(self.0, moment.millis);
+                write!(
+                    f,
+                    "<rect class=\"cancel\" x=\"{x}\" y=\"1\" width=\"3\" height=\"20\"/>"
+                )
+            }
+            None => Ok(()),
         }
     }
 }
@@ -356,24 +388,49 @@ impl fmt::Display for OutcomeCount {
     }
 }
 
-/// How many things share a row, beside their bars.
+/// Of how many things a row tells, and how many of them are drawn, if not all are.
+#[derive(Clone, Copy)]
+struct RowTimes {
+    things: usize,
+    drawn: usize,
+}
+
+impl fmt::Display for RowTimes {
+    ghost output = { λ t. Some (bytes (times_html t.things t.drawn)) };
+
+    fn fmt<W: fmt::Write>(&self, f: &mut fmt::Formatter<W>) -> fmt::Result {
+        let things = self.things;
+        let drawn = self.drawn;
+        if things == drawn {
+            write!(f, "{things} times")
+        } else {
+            write!(f, "{drawn} of {things}")
+        }
+    }
+}
+
+/// Of how many things a row tells, beside the bars.
 #[derive(Clone, Copy)]
 struct RowCounts {
     things: usize,
+    drawn: usize,
     failed: usize,
     pending: usize,
 }
 
 impl fmt::Display for RowCounts {
-    ghost output = { λ c. Some (bytes (counts_html c.things c.failed c.pending)) };
+    ghost output = { λ c. Some (bytes (counts_html c.things c.drawn c.failed c.pending)) };
 
     fn fmt<W: fmt::Write>(&self, f: &mut fmt::Formatter<W>) -> fmt::Result {
-        let things = self.things;
+        let times = RowTimes {
+            things: self.things,
+            drawn: self.drawn,
+        };
         let failed = OutcomeCount("failed", self.failed);
         let pending = OutcomeCount("open", self.pending);
         write!(
             f,
-            "<text class=\"said\" x=\"846\" y=\"15\">{things} times{failed}{pending}</text>"
+            "<text class=\"said\" x=\"846\" y=\"15\">{times}{failed}{pending}</text>"
         )
     }
 }
@@ -417,12 +474,14 @@ impl fmt::Display for PartWords<'_> {
             }
             RowPart::First {
                 things,
+                drawn,
                 failed,
                 pending,
             } => {
                 let label = SharedLabel(self.0);
                 let counts = RowCounts {
                     things,
+                    drawn,
                     failed,
                     pending,
                 };
@@ -451,9 +510,10 @@ impl fmt::Display for LaneRow<'_> {
         let title = Title(self.lane);
         let part = PartWords(self.lane);
         let sign = Sign(self.stops, self.lane);
+        let mark = CancelMark(self.stops, self.lane.cancelling);
         write!(
             f,
-            "<g class=\"lane {classes}\" transform=\"translate(0 {y})\">{title}{part}{sign}</g>\n"
+            "<g class=\"lane {classes}\" transform=\"translate(0 {y})\">{title}{part}{sign}{mark}</g>\n"
         )
     }
 }

@@ -15,10 +15,11 @@ mod view;
 
 pub use axis::{Axis, Gap, Stop, axis_of};
 pub use escaping::Escaped;
-pub use lanes::{Classes, time_between};
+pub use lanes::Classes;
 pub use page::{
-    Difference, Fact, Kind, Lane, Moment, Page, RowPart, Side, Task, TaskLine, ThingOutcome,
+    Difference, Fact, Kind, Lane, Longest, Moment, Page, RowPart, Side, SumOfType, Task, TaskLine,
+    ThingOutcome,
 };
 pub use picture::Picture;
 pub use times::{LAST_TIME, Stamp, TimeSpan};
-pub use view::{first_items, shown_tasks};
+pub use view::{first_items, first_shown, shown_tasks};

@@ -48,18 +48,20 @@ pub enum ThingOutcome {
 /// How a thing stands in its row of the picture.
 #[derive(Clone, Copy)]
 pub enum RowPart {
-    /// Alone.
+    /// As the only one of which the row tells.
     Alone,
-    /// As the first of several.
+    /// As the first that is drawn there, in a row that tells of several.
     First {
-        /// How many stand there.
+        /// Of how many things of the run the row tells, whether they are drawn or not.
         things: usize,
-        /// How many of these failed.
+        /// How many of these are drawn.
+        drawn: usize,
+        /// How many of all these failed.
         failed: usize,
-        /// How many of these are open.
+        /// How many of all these are open.
         pending: usize,
     },
-    /// As a later one of several.
+    /// As a later one that is drawn there.
     Later,
 }
 
@@ -76,9 +78,17 @@ pub struct Lane {
     pub opened: Moment,
     /// The event that started it, if there is one.
     pub started: Option<Moment>,
+    /// The event that requested its cancellation, if there is one.
+    pub cancelling: Option<Moment>,
     /// The event that ended it; `None` while it is open, and if the event that opened it also ended
     /// it.
     pub ended: Option<Moment>,
+    /// How long it waited for its start, in words; `None` if it has not started, or that is not
+    /// known.
+    pub waited: Option<Text>,
+    /// How long it took, in words: from its start to its end, or from its opening if it was not
+    /// started; `None` if it has not ended, or that is not known.
+    pub took: Option<Text>,
     /// Its outcome.
     pub outcome: ThingOutcome,
     /// Its outcome in words: `completed`, or the text of its failure.
@@ -89,6 +99,32 @@ pub struct Lane {
     pub row: usize,
     /// How it stands there.
     pub part: RowPart,
+}
+
+/// The longest of some times.
+#[derive(Drop)]
+pub struct Longest {
+    /// The time in words: `19 min 33 s`.
+    pub words: Text,
+    /// The number of the event that opened what took so long.
+    pub event: u64,
+}
+
+/// What the things of a type come to.
+#[derive(Drop)]
+pub struct SumOfType {
+    /// Their kind, and their type if they have one: `activity ChargeCard`, `timer`.
+    pub name: Text,
+    /// How many there are.
+    pub times: usize,
+    /// How many of them failed.
+    pub failed: usize,
+    /// How many of them are open.
+    pub pending: usize,
+    /// The median of their times, in words; `None` if no time is known.
+    pub median: Option<Text>,
+    /// The longest of their times; `None` if no time is known.
+    pub longest: Option<Longest>,
 }
 
 /// Which side a line of a task belongs to.
@@ -175,6 +211,8 @@ pub struct Page {
     pub rows: usize,
     /// How many things the run opened in all.
     pub things: usize,
+    /// What the things of each type come to, whether they are shown or not.
+    pub sums: Items<SumOfType>,
     /// The tasks, in the order of the events that started them.
     pub tasks: Items<Task>,
     /// What else a reader has to know, such as what is not supported.

@@ -32,7 +32,7 @@ impl fmt::Display for Undrawn {
         }
         write!(
             f,
-            "<p class=\"soft\">{lanes} of {total} things are drawn: those of the fault, those that failed or are open, and of the others the slowest.</p>\n"
+            "<p class=\"soft\">{lanes} of {total} things are drawn: first those of the fault, then those that failed, then those that are open, and of the others the slowest.</p>\n"
         )
     }
 }
@@ -251,7 +251,7 @@ impl fmt::Display for FaultLine<'_> {
 
 /// The end of the picture, with the key to its signs.
 const CLOSING: &str =
-    "</svg>\n</div>\n<p class=\"soft key\"><span class=\"activity\">activity</span><span class=\"timer\">timer</span><span class=\"child\">child</span><span class=\"signal\">signal</span><span class=\"request\">request</span><span class=\"marker\">marker</span><span class=\"none\">pale: not started yet, still open, or canceled</span><span class=\"none\">red edge: failed</span><span class=\"none\">Many things of a type share a row.</span><span class=\"none\">Time runs to the right, with some room for each step; hatched: longer than it is drawn.</span></p>\n</section>\n";
+    "</svg>\n</div>\n<p class=\"soft key\"><span class=\"activity\">activity</span><span class=\"timer\">timer</span><span class=\"child\">child</span><span class=\"signal\">signal</span><span class=\"request\">request</span><span class=\"marker\">marker</span><span class=\"none\">pale: not started yet, still open, or canceled</span><span class=\"none\">red edge: failed</span><span class=\"none\">upright stroke: its cancellation was requested</span><span class=\"none\">Many things of a type share a row; 8 of 412: of 412 in all, 8 are drawn.</span><span class=\"none\">Time runs to the right, with some room for each step; hatched: longer than it is drawn.</span></p>\n</section>\n";
 
 /// The picture of things and tasks.
 #[derive(Drop)]

@@ -1,7 +1,7 @@
 //! Selects which tasks of a run its page shows.
 
 ghost use Rattle.std.specs.Prelude.{◌≡◌, ◌≤◌, length, nat_lt, count_by, take};
-ghost use Rattle.wh_html.specs.Views.{left_out, shown, middle, shown_tasks};
+ghost use Rattle.wh_html.specs.Views.{left_out, shown, is_open, tasks_before, first_shown, shown_tasks};
 
 use crate::page::{Moment, Page, Task};
 
@@ -39,7 +39,7 @@ fn shown_items<T>(items: &[T], left: usize) -> &[T]
 }
 
 /// Returns how many of the tasks were started before an event.
-fn tasks_before(tasks: &[Task], event: u64) -> usize
+fn started_before(tasks: &[Task], event: u64) -> usize
     ensures { result ≡ count_by (λ task. nat_lt task.started.event event) tasks.now }
 {
     tasks
@@ -48,23 +48,40 @@ fn tasks_before(tasks: &[Task], event: u64) -> usize
         .count()
 }
 
-/// Returns the number of the event around which a page shows tasks: that of the fault, or 0.
-fn middle(fault: Option<Moment>) -> u64
-    ensures { result ≡ middle fault }
+/// Returns whether a page is that of an open run: of one that waits for something.
+fn is_open(page: &Page) -> bool
+    ensures { result ≡ is_open page.now }
+{
+    !page.waits.get().is_empty()
+}
+
+/// Returns how many of the tasks precede the place around which a page shows tasks: that of the
+/// event of the fault, or else the end of an open run, or the beginning of a closed one.
+fn tasks_before(tasks: &[Task], fault: Option<Moment>, running: bool) -> usize
+    ensures { result ≡ tasks_before tasks.now fault running }
 {
     match fault {
-        Some(moment) => moment.event,
-        None => 0,
+        Some(moment) => started_before(tasks, moment.event),
+        None => if running { tasks.len() } else { 0 },
     }
 }
 
+/// Returns the index of the first task that a page shows: how many are left out before it.
+#[tactic(auto, unfolding(crate::specs::Views::first_shown))]
+pub fn first_shown(page: &Page) -> usize
+    ensures index { result ≡ first_shown page.now }
+    ensures within { result ≤ length page.now.tasks }
+{
+    let tasks = page.tasks.get();
+    left_out(tasks.len(), tasks_before(tasks, page.fault, is_open(page)))
+}
+
 /// Returns the tasks that a page shows: the 300 around the event of the fault, of which 200 start
-/// before it if there are as many, or the first 300 if there is no fault.
+/// before it if there are as many. If there is no fault, the last 300 of an open run, and the first
+/// 300 of a closed one.
 #[tactic(auto, unfolding(crate::specs::Views::shown_tasks))]
 pub fn shown_tasks(page: &Page) -> &[Task]
     ensures { result.now ≡ shown_tasks page.now }
 {
-    let tasks = page.tasks.get();
-    let at = tasks_before(tasks, middle(page.fault));
-    shown_items(tasks, left_out(tasks.len(), at))
+    shown_items(page.tasks.get(), first_shown(page))
 }

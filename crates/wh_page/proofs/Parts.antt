@@ -1,14 +1,16 @@
 -- A page contains its parts, and a task the line of its fault.
-use Rattle.std.proofs.Common.{◌≡◌, ◌<◌, ℕ, suc, zero, true, List, [], ◌∷◌, ◌++◌, length, get_or, sym, ap, ◌∙◌, append_assoc, append-nil, arith}
+use Rattle.std.proofs.Common.{◌≡◌, ◌<◌, ℕ, suc, zero, true, List, [], ◌∷◌, ◌++◌, length, take, get_or, sym, ap, ◌∙◌, append_assoc, append-nil, arith}
 use Rattle.std.specs.List.{list_any}
 use Rattle.std.proofs.lemmas.List.{length-take}
 use Rattle.wh_html.specs.Html.{Html, ◌⊕◌, bytes, each}
 use Rattle.wh_html.specs.declared.axis.Stop.{Stop}
 use Rattle.wh_html.specs.declared.page.TaskLine.{TaskLine}
 use Rattle.wh_html.specs.declared.page.Page.{Page}
+use Rattle.wh_html.specs.declared.page.SumOfType.{SumOfType}
 use Rattle.wh_html.specs.Views.{shown_tasks}
 use Rattle.wh_html.proofs.Shown.{any-taken, any-below, position-any}
 use Rattle.wh_page.specs.Frames.{verdict_html, frame_html}
+use Rattle.wh_page.specs.Sums.{sum_html, filled_html, sums_html}
 use Rattle.wh_page.specs.Tables.{row_html, table_html}
 use Rattle.wh_page.specs.TaskTexts.{is_fault, left_before, shown_lines, task_html, tasks_html}
 use Rattle.wh_page.specs.Pages.{body_html, page_html}
@@ -54,11 +56,24 @@ verdict-part stops page = left _ _ _ (right _ _ _ (left _ _ _ (here _)))
 
 row-part : (stops : List Stop) (page : Page) (part : Html) → IsPart part (each (row_html page.fault) page.lanes) → IsPart part (body_html stops page)
 unfolding body_html table_html
-row-part stops page part h = right _ _ _ (right _ _ _ (right _ _ _ (right _ _ _ (left _ _ _ (right _ _ _ (right _ _ _ (right _ _ _ (left _ _ _ h))))))))
+row-part stops page part h = right _ _ _ (right _ _ _ (right _ _ _ (right _ _ _ (right _ _ _ (left _ _ _ (right _ _ _ (right _ _ _ (right _ _ _ (left _ _ _ h)))))))))
+
+-- a part of the table of types, which has rows if there are some
+sum-in-table : (sums : List SumOfType) (part : Html) → IsPart part (each sum_html (take 100 sums)) → 0 < length sums → IsPart part (sums_html sums)
+unfolding filled_html
+sum-in-table [] part h some = absurd (omega arith)
+sum-in-table (sum ∷ sums) part h some = right _ _ _ (right _ _ _ (right _ _ _ (left _ _ _ h)))
+
+sum-part : (stops : List Stop) (page : Page) (part : Html) → IsPart part (each sum_html (take 100 page.sums)) → 0 < length page.sums → IsPart part (body_html stops page)
+unfolding body_html
+sum-part stops page part h some = right _ _ _ (right _ _ _ (right _ _ _ (right _ _ _ (left _ _ _ (sum-in-table page.sums part h some)))))
+
+some-taken : {A : Type 0} (xs : List A) (k : ℕ) → k < length (take 100 xs) → 0 < length xs
+some-taken xs k h = let few = length-take 100 xs in omega arith
 
 task-part : (stops : List Stop) (page : Page) (part : Html) → IsPart part (each task_html (shown_tasks page)) → IsPart part (body_html stops page)
 unfolding body_html tasks_html
-task-part stops page part h = right _ _ _ (right _ _ _ (right _ _ _ (right _ _ _ (right _ _ _ (right _ _ _ (right _ _ _ (left _ _ _ h)))))))
+task-part stops page part h = right _ _ _ (right _ _ _ (right _ _ _ (right _ _ _ (right _ _ _ (right _ _ _ (right _ _ _ (right _ _ _ (left _ _ _ h))))))))
 
 pub shows_its_parts : ShowsItsParts
 shows_its_parts stops page more =
@@ -66,6 +81,7 @@ shows_its_parts stops page more =
     let within : (part : Html) → IsPart part (body_html stops page) → IsPart part whole = λ part h. left _ _ _ h in
     record {
       verdict = stands whole (verdict_html page) (within _ (verdict-part stops page));
+      sums = λ k d h. stands whole (sum_html (get_or (take 100 page.sums) k d)) (within _ (sum-part stops page _ (each-part sum_html (take 100 page.sums) k d h) (some-taken page.sums k h)));
       things = λ k d h. stands whole (row_html page.fault (get_or page.lanes k d)) (within _ (row-part stops page _ (each-part (row_html page.fault) page.lanes k d h)));
       tasks = λ k d h. stands whole (task_html (get_or (shown_tasks page) k d)) (within _ (task-part stops page _ (each-part task_html (shown_tasks page) k d h)));
     }

@@ -7,22 +7,25 @@ use Rattle.std.specs.List.{list_all, position_or_len}
 use Rattle.wh_html.specs.Html.{nothing, bytes, each}
 use Rattle.wh_html.specs.Tags.{tags}
 use Rattle.wh_html.proofs.Alike.{Alike, is_inner, last, words, texts, both, none, mark, word, text, num, each-alike, decimal-inner}
-use Rattle.wh_html.proofs.Inner.{time, lapse}
+use Rattle.wh_html.proofs.Inner.{time}
 use Rattle.wh_html.specs.declared.axis.Stop.{Stop}
 use Rattle.wh_html.specs.declared.page.Difference.{Difference}
 use Rattle.wh_html.specs.declared.page.Fact.{Fact}
 use Rattle.wh_html.specs.declared.page.Lane.{Lane}
+use Rattle.wh_html.specs.declared.page.Longest.{Longest}
+use Rattle.wh_html.specs.declared.page.SumOfType.{SumOfType}
 use Rattle.wh_html.specs.declared.page.TaskLine.{TaskLine}
 use Rattle.wh_html.specs.declared.page.Moment.{Moment}
 use Rattle.wh_html.specs.declared.page.Page.{Page}
 use Rattle.wh_html.specs.declared.page.Task.{Task}
-use Rattle.wh_html.specs.Views.{shown, shown_tasks}
-use Rattle.wh_html.specs.Without.{without_fact, without_difference, without_lane, without_line, without_task, without_texts}
+use Rattle.wh_html.specs.Views.{shown, first_shown, shown_tasks}
+use Rattle.wh_html.specs.Without.{without_fact, without_difference, without_lane, without_longest, without_sum, without_line, without_task, without_texts}
 use Rattle.wh_html.proofs.WordsInner.{kind-inner, side-inner}
-use Rattle.wh_html.proofs.Drawn.{IsClosed, choose, classes-alike, picture-alike, tasks-shown}
+use Rattle.wh_html.proofs.Drawn.{IsClosed, choose, classes-alike, picture-alike, first-same, tasks-shown}
 use Rattle.wh_page.specs.Frames.{head_html, verdict_class, verdict_html, fact_html, at_html, sides_html, difference_html, frame_html}
-use Rattle.wh_page.specs.Tables.{count_html, moment_html, took_html, label_html, attempts_html, row_head_html, row_html, table_html}
-use Rattle.wh_page.specs.TaskTexts.{number_html, anchor_html, trace_line_html, more_html, folded_html, trace_html, line_head_html, line_html, left_html, is_fault, left_before, shown_lines, left_after, lines_html, open_words, task_html, tasks_html, note_html, waits_html, notes_html}
+use Rattle.wh_page.specs.Tables.{count_html, moment_html, length_html, label_html, attempts_html, row_head_html, row_html, table_html}
+use Rattle.wh_page.specs.Sums.{longest_html, counts_html, sum_html, filled_html, sums_html}
+use Rattle.wh_page.specs.TaskTexts.{number_html, anchor_html, trace_line_html, more_html, folded_html, trace_html, line_head_html, line_html, left_html, is_fault, left_before, shown_lines, left_after, lines_html, open_words, task_html, task_count_html, tasks_html, note_html, waits_html, notes_html}
 use Rattle.wh_page.specs.Pages.{body_html, page_html}
 use Rattle.wh_page.specs.Laws.{TextsAreNoTags}
 
@@ -62,9 +65,9 @@ moment-alike : (moment : Option Moment) → IsClosed (moment_html moment)
 moment-alike None = last _
 moment-alike (Some moment) = mark _ (time _ (mark _ (num _ (last _))))
 
-took-alike : (opened : Moment) (ended : Option Moment) → IsClosed (took_html opened ended)
-took-alike opened None = last _
-took-alike opened (Some ended) = mark _ (lapse _ (last _))
+length-alike : (span : Option (List ℕ)) → Alike false false (length_html span) (length_html (option_map (λ _. []) span))
+length-alike None = last _
+length-alike (Some span) = mark _ (text _ _ _ (last _))
 
 label-alike : (type_name : Option (List ℕ)) (name : List ℕ) → Alike false false (label_html type_name name) (label_html (option_map (λ _. []) type_name) [])
 label-alike None name = texts _ _ _
@@ -83,13 +86,38 @@ row-alike : (fault : Option Moment) (lane : Lane) → Alike false false (row_htm
 unfolding row_html
 row-alike fault lane =
     both (row-head-alike fault lane) (both (moment-alike (Some lane.opened)) (both (moment-alike lane.started) (both (moment-alike lane.ended)
-    (both (took-alike lane.opened lane.ended) (mark _ (text _ _ _ (mark _ (both (attempts-alike lane.attempts) (last _)))))))))
+    (both (length-alike lane.waited) (both (length-alike lane.took) (mark _ (text _ _ _ (mark _ (both (attempts-alike lane.attempts) (last _))))))))))
 
 pub table-alike : (fault : Option Moment) (lanes : List Lane) (total : ℕ) → Alike false false (table_html fault lanes total) (table_html fault (map without_lane lanes) total)
 unfolding table_html
 table-alike fault lanes total =
     rw (length-map lanes without_lane) (mark _ (both (count-alike (length lanes) total)
     (mark _ (both (each-alike (row_html fault) without_lane (row-alike fault) lanes) (last _)))))
+
+-- the sums by type
+longest-alike : (longest : Option Longest) → Alike false false (longest_html longest) (longest_html (option_map without_longest longest))
+longest-alike None = last _
+longest-alike (Some longest) = mark _ (text _ _ _ (mark _ (num _ (mark _ (num _ (last _))))))
+
+sum-alike : (sum : SumOfType) → Alike false false (sum_html sum) (sum_html (without_sum sum))
+unfolding sum_html
+sum-alike sum =
+    mark _ (text _ _ _ (mark _ (both (counts-alike sum.times sum.failed sum.pending)
+    (both (length-alike sum.median) (both (longest-alike sum.longest) (last _))))))
+  where
+    counts-alike : (times failed pending : ℕ) → IsClosed (counts_html times failed pending)
+    counts-alike times failed pending = mark _ (num _ (mark _ (num _ (mark _ (num _ (last _))))))
+
+filled-alike : (sums : List SumOfType) → Alike false false (filled_html sums) (filled_html (map without_sum sums))
+unfolding filled_html
+filled-alike sums =
+    rw (take-map without_sum 100 sums, length-map (take 100 sums) without_sum, length-map sums without_sum)
+    (mark _ (both (count-alike (length (take 100 sums)) (length sums))
+    (mark _ (both (each-alike sum_html without_sum sum-alike (take 100 sums)) (last _)))))
+
+sums-alike : (sums : List SumOfType) → Alike false false (sums_html sums) (sums_html (map without_sum sums))
+sums-alike [] = none
+sums-alike (sum ∷ sums) = filled-alike (sum ∷ sums)
 
 -- the tasks and the notes
 number-alike : (event : Option ℕ) → IsClosed (number_html event)
@@ -174,10 +202,15 @@ task-alike task =
     mark _ (word _ (open-inner task.faulty) (mark _ (text _ _ _ (mark _ (num _ (mark _ (time _ (mark _
     (both (lines-alike task.lines) (last _))))))))))
 
-pub tasks-alike : (tasks : List Task) (total : ℕ) → Alike false false (tasks_html tasks total) (tasks_html (map without_task tasks) total)
+task-count-alike : (shown before total : ℕ) → IsClosed (task_count_html shown before total)
+task-count-alike shown before total =
+    choose (shown == total) _ _ (mark _ (num _ (last _)))
+    (mark _ (num _ (mark _ (num _ (mark _ (num _ (mark _ (num _ (last _)))))))))
+
+pub tasks-alike : (tasks : List Task) (before total : ℕ) → Alike false false (tasks_html tasks before total) (tasks_html (map without_task tasks) before total)
 unfolding tasks_html
-tasks-alike tasks total =
-    rw (length-map tasks without_task) (mark _ (both (count-alike (length tasks) total)
+tasks-alike tasks before total =
+    rw (length-map tasks without_task) (mark _ (both (task-count-alike (length tasks) before total)
     (both (each-alike task_html without_task task-alike tasks) (last _))))
 
 note-alike : (note : List ℕ) → Alike false false (note_html note) (note_html [])
@@ -208,9 +241,9 @@ frame-alike page =
 body-alike : (stops : List Stop) (page : Page) → Alike false false (body_html stops page) (body_html stops (without_texts page))
 unfolding body_html without_texts
 body-alike stops page =
-    rw (tasks-shown page, length-map page.tasks without_task)
+    rw (tasks-shown page, first-same page, length-map page.tasks without_task)
     (both (frame-alike page) (both (waits-alike page.waits) (both (notes-alike page.notes) (both (picture-alike page.fault stops page.lanes page.rows page.things (shown_tasks page))
-    (both (table-alike page.fault page.lanes page.things) (tasks-alike (shown_tasks page) (length page.tasks)))))))
+    (both (sums-alike page.sums) (both (table-alike page.fault page.lanes page.things) (tasks-alike (shown_tasks page) (first_shown page) (length page.tasks))))))))
 
 pub texts_are_no_tags : TextsAreNoTags
 texts_are_no_tags stops page more other same =

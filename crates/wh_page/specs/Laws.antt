@@ -1,5 +1,5 @@
 -- What holds of every page.
-use Rattle.std.specs.Prelude.{◌≡◌, ◌≤◌, ℕ, true, List, ◌++◌, length, All}
+use Rattle.std.specs.Prelude.{◌≡◌, ◌≤◌, ℕ, true, List, ◌++◌, take, length, All}
 use Rattle.std.specs.List.{list_any}
 use Rattle.wh_html.specs.Html.{Html, bytes}
 use Rattle.wh_html.specs.Tags.{tags}
@@ -9,6 +9,7 @@ use Rattle.wh_html.specs.declared.axis.Stop.{Stop}
 use Rattle.wh_html.specs.Without.{without_texts}
 use Rattle.wh_html.specs.Views.{shown_tasks}
 use Rattle.wh_page.specs.Frames.{verdict_html}
+use Rattle.wh_page.specs.Sums.{sum_html}
 use Rattle.wh_page.specs.Tables.{row_html}
 use Rattle.wh_page.specs.TaskTexts.{is_fault, shown_lines, task_html}
 use Rattle.wh_page.specs.Pages.{page_html}
@@ -41,6 +42,7 @@ pub record StandsIn (whole part : List ℕ) : Type 0 where
 -- a page contains these parts of it
 pub record HasParts (page : Page) (html : List ℕ) : Type 0 where
   pub verdict : StandsIn html (bytes (verdict_html page))
+  pub sums : All (λ sum. StandsIn html (bytes (sum_html sum))) (take 100 page.sums)
   pub things : All (λ lane. StandsIn html (bytes (row_html page.fault lane))) page.lanes
   pub tasks : All (λ task. StandsIn html (bytes (task_html task))) (shown_tasks page)
 

@@ -2,7 +2,7 @@
 use Rattle.std.specs.Prelude.{ℕ, ◌-◌, ◌==◌, if◌then◌else◌, Option, Some, None, List, codes, length}
 use Rattle.wh_html.specs.declared.page.Lane.{Lane}
 use Rattle.wh_html.specs.declared.page.Moment.{Moment}
-use Rattle.wh_html.specs.Html.{Html, markup, plain, hole, ◌⊕◌, number, stamp, span, each}
+use Rattle.wh_html.specs.Html.{Html, markup, plain, hole, ◌⊕◌, number, stamp, each}
 use Rattle.wh_html.specs.Words.{kind_word}
 use Rattle.wh_html.specs.Lanes.{classes_html}
 
@@ -21,11 +21,10 @@ moment_html (Some moment) =
     markup (codes "<td class=\"time\">") ⊕ stamp moment.millis ⊕ markup (codes " <span class=\"event\">event ")
     ⊕ number moment.event ⊕ markup (codes "</span></td>")
 
--- a cell with how long a thing took, or an empty one
-abbrev pub took_html : (opened : Moment) → Option Moment → Html
-took_html opened None = markup (codes "<td></td>")
-took_html opened (Some ended) =
-    markup (codes "<td class=\"time\">") ⊕ span (ended.millis - opened.millis) ⊕ markup (codes "</td>")
+-- a cell with a length of time, or an empty one
+abbrev pub length_html : Option (List ℕ) → Html
+length_html None = markup (codes "<td></td>")
+length_html (Some length) = markup (codes "<td class=\"time\">") ⊕ hole 100 length ⊕ markup (codes "</td>")
 
 -- the label of a thing: its type and below it its id, or else its id alone
 abbrev pub label_html : Option (List ℕ) → List ℕ → Html
@@ -56,7 +55,8 @@ row_html fault lane =
     ⊕ moment_html (Some lane.opened)
     ⊕ moment_html lane.started
     ⊕ moment_html lane.ended
-    ⊕ took_html lane.opened lane.ended
+    ⊕ length_html lane.waited
+    ⊕ length_html lane.took
     ⊕ markup (codes "<td class=\"words\">")
     ⊕ hole 600 lane.words
     ⊕ markup (codes "</td>")
@@ -68,6 +68,6 @@ unfoldable pub table_html : Option Moment → List Lane → (total : ℕ) → Ht
 table_html fault lanes total =
     markup (codes "<section>\n<h2 id=\"things\">What was opened</h2>\n")
     ⊕ count_html (length lanes) total
-    ⊕ markup (codes "<div class=\"scroll\" tabindex=\"0\" role=\"region\" aria-labelledby=\"things\">\n<table>\n<thead><tr><th scope=\"col\">Name</th><th scope=\"col\">Kind</th><th scope=\"col\">Opened</th><th scope=\"col\">Started</th><th scope=\"col\">Ended</th><th scope=\"col\">Took</th><th scope=\"col\">Outcome</th><th scope=\"col\">Attempts</th></tr></thead>\n<tbody>\n")
+    ⊕ markup (codes "<div class=\"scroll\" tabindex=\"0\" role=\"region\" aria-labelledby=\"things\">\n<table>\n<thead><tr><th scope=\"col\">Name</th><th scope=\"col\">Kind</th><th scope=\"col\">Opened</th><th scope=\"col\">Started</th><th scope=\"col\">Ended</th><th scope=\"col\">Waited</th><th scope=\"col\">Took</th><th scope=\"col\">Outcome</th><th scope=\"col\">Attempts</th></tr></thead>\n<tbody>\n")
     ⊕ each (row_html fault) lanes
     ⊕ markup (codes "</tbody>\n</table>\n</div>\n</section>\n")

@@ -6,7 +6,6 @@ use Rattle.wh_html.specs.declared.page.Side.TheVariants.{Told, Gives, Recorded, 
 use Rattle.wh_html.specs.declared.page.Task.{Task}
 use Rattle.wh_html.specs.Html.{Html, nothing, markup, plain, hole, ◌⊕◌, number, stamp, each}
 use Rattle.wh_html.specs.Words.{side_word}
-use Rattle.wh_page.specs.Tables.{count_html}
 
 -- the event of a line, if it has one
 abbrev pub number_html : Option ℕ → Html
@@ -114,11 +113,20 @@ task_html task =
     ⊕ lines_html task.lines
     ⊕ markup (codes "</ol>\n</details>\n")
 
--- the tasks that are shown, out of so many in all
-unfoldable pub tasks_html : List Task → (total : ℕ) → Html
-tasks_html tasks total =
+-- how many of all tasks are shown, and how many are left out before and after them
+abbrev pub task_count_html : (shown before total : ℕ) → Html
+task_count_html shown before total =
+    if shown == total
+    then (markup (codes "<p class=\"soft\">") ⊕ number total ⊕ markup (codes " in all.</p>\n"))
+    else (markup (codes "<p class=\"soft\">") ⊕ number shown ⊕ markup (codes " of ") ⊕ number total
+    ⊕ markup (codes " are shown; ") ⊕ number before ⊕ markup (codes " before them and ")
+    ⊕ number (total - shown - before) ⊕ markup (codes " after them are left out.</p>\n"))
+
+-- the tasks that are shown, with so many left out before them, out of so many in all
+unfoldable pub tasks_html : List Task → (before total : ℕ) → Html
+tasks_html tasks before total =
     markup (codes "<section>\n<h2>Tasks</h2>\n")
-    ⊕ count_html (length tasks) total
+    ⊕ task_count_html (length tasks) before total
     ⊕ each task_html tasks
     ⊕ markup (codes "</section>\n")
 

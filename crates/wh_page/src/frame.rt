@@ -2,6 +2,7 @@
 
 ghost use Rattle.std.specs.Prelude.{◌≡◌, Some};
 ghost use Rattle.std.specs.Fmt.{DisplaysOnOk};
+ghost use Rattle.wh_html.specs.Escaping.{escaped};
 ghost use Rattle.wh_html.specs.Html.{bytes, each};
 ghost use Rattle.wh_page.specs.Frames.{head_html, verdict_class, verdict_html, fact_html, at_html, sides_html, difference_html, frame_html};
 
@@ -22,6 +23,38 @@ const VERDICT: usize = 400;
 /// The most characters of a side of a difference.
 const SIDE: usize = 2_000;
 
+/// The title as the page shows it.
+#[derive(Drop)]
+struct Title<'a>(&'a Page);
+
+impl fmt::Display for Title<'_> {
+    ghost output = { λ t. Some (escaped 300 t.0.now.title) };
+
+    fn fmt<W: fmt::Write>(&self, f: &mut fmt::Formatter<W>) -> fmt::Result {
+        let title = Escaped {
+            text: &self.0.title,
+            most: NAME,
+        };
+        write!(f, "{title}")
+    }
+}
+
+/// The verdict as the page shows it.
+#[derive(Drop)]
+struct VerdictText<'a>(&'a Page);
+
+impl fmt::Display for VerdictText<'_> {
+    ghost output = { λ v. Some (escaped 400 v.0.now.verdict) };
+
+    fn fmt<W: fmt::Write>(&self, f: &mut fmt::Formatter<W>) -> fmt::Result {
+        let verdict = Escaped {
+            text: &self.0.verdict,
+            most: VERDICT,
+        };
+        write!(f, "{verdict}")
+    }
+}
+
 /// What precedes the body: the title of the page and the style sheet.
 #[derive(Drop)]
 struct Head<'a>(&'a Page);
@@ -31,14 +64,8 @@ impl fmt::Display for Head<'_> {
 
     #[tactic(auto, unfolding(crate::specs::Frames::head_html))]
     fn fmt<W: fmt::Write>(&self, f: &mut fmt::Formatter<W>) -> fmt::Result {
-        let title = Escaped {
-            text: &self.0.title,
-            most: NAME,
-        };
-        let verdict = Escaped {
-            text: &self.0.verdict,
-            most: VERDICT,
-        };
+        let title = Title(self.0);
+        let verdict = VerdictText(self.0);
         write!(
             f,
             "<!doctype html>\n<html lang=\"en\">\n<head>\n<meta charset=\"utf-8\">\n<meta name=\"viewport\" content=\"width=device-width, initial-scale=1\">\n<meta name=\"color-scheme\" content=\"light dark\">\n<meta http-equiv=\"Content-Security-Policy\" content=\"default-src 'none'; style-src 'unsafe-inline'\">\n<title>{title}: {verdict}</title>\n<style>\n{STYLE_OF_TEXT}{STYLE_OF_PARTS}{STYLE_OF_PICTURE}</style>\n</head>\n<body>\n"
@@ -66,14 +93,8 @@ impl fmt::Display for VerdictHeader<'_> {
 
     #[tactic(auto, unfolding(crate::specs::Frames::verdict_html))]
     fn fmt<W: fmt::Write>(&self, f: &mut fmt::Formatter<W>) -> fmt::Result {
-        let title = Escaped {
-            text: &self.0.title,
-            most: NAME,
-        };
-        let verdict = Escaped {
-            text: &self.0.verdict,
-            most: VERDICT,
-        };
+        let title = Title(self.0);
+        let verdict = VerdictText(self.0);
         let class = verdict_class(self.0.good);
         write!(
             f,

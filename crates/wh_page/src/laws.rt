@@ -12,8 +12,8 @@ pub fn faults_have_lines()
     ensures { FaultHasALine }
 {}
 
-/// A page contains its verdict, the row of each thing that it shows, and each task that it shows,
-/// each in one piece.
+/// A page contains its verdict, the row of each of its first 100 types, the row of each thing that
+/// it shows, and each task that it shows, each in one piece.
 pub fn pages_show_their_parts()
     ensures { ShowsItsParts }
 {}

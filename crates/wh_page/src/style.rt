@@ -91,6 +91,7 @@ svg .wait{fill:var(--c);fill-opacity:.35}
 svg .open .bar{fill-opacity:.3;stroke:var(--c);stroke-dasharray:3 2}
 svg .canceled .bar{fill-opacity:.3;stroke:var(--c)}
 svg .failed .bar{stroke:var(--bad);stroke-width:2}
+svg .cancel{fill:var(--fg)}
 svg .said{fill:var(--soft);font-size:11px}
 svg .id{fill:var(--soft);font-size:10px}
 svg .failed .said{fill:var(--bad)}

@@ -2,11 +2,12 @@
 
 ghost use Rattle.std.specs.Prelude.{◌≡◌, Some};
 ghost use Rattle.wh_html.specs.Html.{bytes, each};
-ghost use Rattle.wh_page.specs.Tables.{count_html, moment_html, took_html, label_html, attempts_html, row_head_html, row_html, table_html};
+ghost use Rattle.wh_page.specs.Tables.{count_html, moment_html, length_html, label_html, attempts_html, row_head_html, row_html, table_html};
 
 use crate::frame::{NAME, WORDS};
 use std::fmt;
-use wh_html::{Classes, Escaped, Lane, Moment, Stamp, time_between};
+use wh_events::Text;
+use wh_html::{Classes, Escaped, Lane, Moment, Stamp};
 
 /// How many of all things are shown, and how many are left out.
 #[derive(Clone, Copy)]
@@ -55,18 +56,21 @@ impl fmt::Display for MomentCell {
     }
 }
 
-/// A cell with how long a thing took, or an empty one.
-#[derive(Clone, Copy)]
-struct TookCell(Moment, Option<Moment>);
+/// A cell with a length of time, or an empty one.
+#[derive(Drop)]
+pub(crate) struct LengthCell<'a>(pub(crate) &'a Option<Text>);
 
-impl fmt::Display for TookCell {
-    ghost output = { λ c. Some (bytes (took_html c.0 c.1)) };
+impl fmt::Display for LengthCell<'_> {
+    ghost output = { λ c. Some (bytes (length_html c.0.now)) };
 
     fn fmt<W: fmt::Write>(&self, f: &mut fmt::Formatter<W>) -> fmt::Result {
-        match self.1 {
-            Some(ended) => {
-                let span = time_between(self.0, ended);
-                write!(f, "<td class=\"time\">{span}</td>")
+        match self.0 {
+            Some(length) => {
+                let length = Escaped {
+                    text: length,
+                    most: 100,
+                };
+                write!(f, "<td class=\"time\">{length}</td>")
             }
             None => write!(f, "<td></td>"),
         }
@@ -145,7 +149,8 @@ impl fmt::Display for ThingRow<'_> {
         let opened = MomentCell(Some(lane.opened));
         let started = MomentCell(lane.started);
         let ended = MomentCell(lane.ended);
-        let took = TookCell(lane.opened, lane.ended);
+        let waited = LengthCell(&lane.waited);
+        let took = LengthCell(&lane.took);
         let words = Escaped {
             text: &lane.words,
             most: WORDS,
@@ -153,7 +158,7 @@ impl fmt::Display for ThingRow<'_> {
         let attempts = AttemptsCell(lane.attempts);
         write!(
             f,
-            "{head}{opened}{started}{ended}{took}<td class=\"words\">{words}</td>{attempts}</tr>\n"
+            "{head}{opened}{started}{ended}{waited}{took}<td class=\"words\">{words}</td>{attempts}</tr>\n"
         )
     }
 }
@@ -194,7 +199,7 @@ impl fmt::Display for ThingTable<'_> {
         let rows = ThingRows(self.fault, self.lanes);
         write!(
             f,
-            "<section>\n<h2 id=\"things\">What was opened</h2>\n{count}<div class=\"scroll\" tabindex=\"0\" role=\"region\" aria-labelledby=\"things\">\n<table>\n<thead><tr><th scope=\"col\">Name</th><th scope=\"col\">Kind</th><th scope=\"col\">Opened</th><th scope=\"col\">Started</th><th scope=\"col\">Ended</th><th scope=\"col\">Took</th><th scope=\"col\">Outcome</th><th scope=\"col\">Attempts</th></tr></thead>\n<tbody>\n{rows}</tbody>\n</table>\n</div>\n</section>\n"
+            "<section>\n<h2 id=\"things\">What was opened</h2>\n{count}<div class=\"scroll\" tabindex=\"0\" role=\"region\" aria-labelledby=\"things\">\n<table>\n<thead><tr><th scope=\"col\">Name</th><th scope=\"col\">Kind</th><th scope=\"col\">Opened</th><th scope=\"col\">Started</th><th scope=\"col\">Ended</th><th scope=\"col\">Waited</th><th scope=\"col\">Took</th><th scope=\"col\">Outcome</th><th scope=\"col\">Attempts</th></tr></thead>\n<tbody>\n{rows}</tbody>\n</table>\n</div>\n</section>\n"
         )
     }
 }

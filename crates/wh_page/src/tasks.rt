@@ -3,10 +3,9 @@
 ghost use Rattle.std.specs.Prelude.{◌≡◌, Some, position};
 ghost use Rattle.wh_html.specs.Html.{bytes, each};
 ghost use Rattle.wh_page.specs.TaskTexts.{number_html, anchor_html, trace_line_html, more_html, trace_html, line_head_html, line_html, left_html, is_fault, left_before, shown_lines};
-ghost use Rattle.wh_page.specs.TaskTexts.{left_after, lines_html, open_words, task_html, tasks_html, note_html, waits_html, notes_html};
+ghost use Rattle.wh_page.specs.TaskTexts.{left_after, lines_html, open_words, task_html, task_count_html, tasks_html, note_html, waits_html, notes_html};
 
 use crate::frame::{NAME, WORDS};
-use crate::table::Count;
 use std::fmt;
 use wh_events::Text;
 use wh_html::{Escaped, Side, Stamp, Task, TaskLine, first_items};
@@ -292,20 +291,49 @@ impl fmt::Display for TaskParts<'_> {
     }
 }
 
-/// The tasks that are shown, out of so many in all.
+/// How many of all tasks are shown, and how many are left out before and after them.
+#[derive(Clone, Copy)]
+struct TaskCount {
+    shown: usize,
+    before: usize,
+    total: usize,
+}
+
+impl fmt::Display for TaskCount {
+    ghost output = { λ c. Some (bytes (task_count_html c.shown c.before c.total)) };
+
+    fn fmt<W: fmt::Write>(&self, f: &mut fmt::Formatter<W>) -> fmt::Result {
+        let shown = self.shown;
+        let total = self.total;
+        if shown == total {
+            write!(f, "<p class=\"soft\">{total} in all.</p>\n")
+        } else {
+            let before = self.before;
+            let after = total.saturating_sub(shown).saturating_sub(before);
+            write!(
+                f,
+                "<p class=\"soft\">{shown} of {total} are shown; {before} before them and {after} after them are left out.</p>\n"
+            )
+        }
+    }
+}
+
+/// The tasks that are shown, with so many left out before them, out of so many in all.
 #[derive(Drop)]
 pub(crate) struct Tasks<'a> {
     pub(crate) tasks: &'a [Task],
+    pub(crate) before: usize,
     pub(crate) total: usize,
 }
 
 impl fmt::Display for Tasks<'_> {
-    ghost output = { λ t. Some (bytes (tasks_html t.tasks.now t.total)) };
+    ghost output = { λ t. Some (bytes (tasks_html t.tasks.now t.before t.total)) };
 
     #[tactic(auto, unfolding(crate::specs::TaskTexts::tasks_html))]
     fn fmt<W: fmt::Write>(&self, f: &mut fmt::Formatter<W>) -> fmt::Result {
-        let count = Count {
+        let count = TaskCount {
             shown: self.tasks.len(),
+            before: self.before,
             total: self.total,
         };
         let parts = TaskParts(self.tasks);

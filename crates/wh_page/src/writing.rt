@@ -7,11 +7,12 @@ ghost use Rattle.wh_html.specs.Views.{IsAxisOf};
 ghost use Rattle.wh_page.specs.Pages.{body_html, end_html};
 
 use crate::frame::Frame;
+use crate::sums::SumTable;
 use crate::table::ThingTable;
 use crate::tasks::{Notes, Tasks, Waits};
 use std::io;
 use std::io::Write;
-use wh_html::{Axis, Page, Picture, shown_tasks};
+use wh_html::{Axis, Page, Picture, first_shown, shown_tasks};
 
 /// Writes a page, but for its end, with its times at the stops of an axis.
 #[tactic(auto, unfolding(crate::specs::Pages::body_html))]
@@ -30,6 +31,7 @@ fn write_parts<W: Write>(page: &Page, axis: &Axis, writer: &mut W) -> io::Result
         total: page.things,
         tasks: shown_tasks(page),
     };
+    let sums = SumTable(page.sums.get());
     let table = ThingTable {
         fault: page.fault,
         lanes: page.lanes.get(),
@@ -37,9 +39,10 @@ fn write_parts<W: Write>(page: &Page, axis: &Axis, writer: &mut W) -> io::Result
     };
     let tasks = Tasks {
         tasks: shown_tasks(page),
+        before: first_shown(page),
         total: page.tasks.get().len(),
     };
-    write!(writer, "{frame}{waits}{notes}{picture}{table}{tasks}")
+    write!(writer, "{frame}{waits}{notes}{picture}{sums}{table}{tasks}")
 }
 
 /// Writes a page as one HTML file, but for its end. `axis` must be the axis of the page, as

@@ -6,11 +6,13 @@ use Rattle.std.proofs.lemmas.Bool.{ltb-true, leb-true}
 use Rattle.std.proofs.lemmas.Bool.Decides.{nat_tests}
 use Rattle.std.proofs.lemmas.List.{length-map}
 use Rattle.std.proofs.lemmas.List.Sums.{sum_by-cons}
+use Rattle.wh_html.specs.declared.page.ThingOutcome.{ThingOutcome}
+use Rattle.wh_html.specs.declared.page.ThingOutcome.TheVariants.{Open, Done, Failed, Canceled}
 use Rattle.wh_view.specs.declared.view.View.{View}
 use Rattle.wh_view.specs.declared.view.ViewedThing.{ViewedThing}
-use Rattle.wh_run_page.specs.Choices.{is_hit, is_trouble, time_until, weight, count_from, has_room, room_after, heaviest, AreHeaviest}
+use Rattle.wh_run_page.specs.Choices.{is_hit, outcome_weight, time_until, weight, count_from, has_room, room_after, heaviest, AreHeaviest}
 use Rattle.wh_run_page.specs.Lanes.{outcome_at, lane_of, lanes_of}
-use Rattle.wh_run_page.specs.Laws.{ThingsAreFew, FaultIsShown}
+use Rattle.wh_run_page.specs.Laws.{ThingsAreAsManyAsFit, FaultIsShown}
 use Rattle.wh_run_page.specs.Moments.{event_at, times_of, index_at}
 use Rattle.wh_run_page.specs.Pages.{timed_page}
 use Rattle.wh_run_page.specs.Rows.{firsts_of, placed_from, placed_things}
@@ -32,17 +34,39 @@ module _ (weigh : ViewedThing → ℕ) where
   count-cons : (least : ℕ) (x : ViewedThing) (xs : List ViewedThing) → count_from weigh least (x ∷ xs) ≡ cond (nat_le least (weigh x)) 1 0 + count_from weigh least xs
   count-cons least x xs = sum_by-cons (λ thing. cond (nat_le least (weigh thing)) 1 0) x xs
 
-  one-more : (least room own n c : ℕ) → n ≤ c + room_after least room own → cond (has_room least room own) 1 0 + n ≤ cond (nat_le (least + 1) own) 1 0 + c + room
-  one-more least room own n c h = grind (arith, nat_tests)
+  one-above : (least own : ℕ) → cond (nat_le (least + 1) own) 1 0 ≤ cond (nat_le least own) 1 0
+  one-above least own = grind (arith, nat_tests)
 
-  -- no more are shown than weigh more than the least, and than there is room for
-  pub length-heaviest : (least room : ℕ) (xs : List ViewedThing) → length (heaviest weigh least room xs) ≤ count_from weigh (least + 1) xs + room
-  length-heaviest least room [] = omega arith
-  length-heaviest least room (x ∷ xs) =
-      let rest = length-heaviest least (room_after least room (weigh x)) xs in
+  -- what weighs more than the least weighs as much
+  count-above : (least : ℕ) (xs : List ViewedThing) → count_from weigh (least + 1) xs ≤ count_from weigh least xs
+  count-above least [] = omega arith
+  count-above least (x ∷ xs) =
+      let rest = count-above least xs in
+      let above = count-cons (least + 1) x xs in
+      let all = count-cons least x xs in
+      let own = one-above least (weigh x) in
+      omega arith
+
+  room-full : (least room own c n : ℕ) → c ≤ n → cond (nat_le (least + 1) own) 1 0 + c + room ≤ cond (nat_le least own) 1 0 + n → c + room_after least room own ≤ n
+  room-full least room own c n low h = grind (arith, nat_tests)
+
+  one-full : (least room own c : ℕ) → cond (has_room least room own) 1 0 + (c + room_after least room own) ≡ cond (nat_le (least + 1) own) 1 0 + c + room
+  one-full least room own c = grind (arith, nat_tests)
+
+  -- where enough weigh as much as the least, the room for them is filled
+  pub heaviest-full : (least room : ℕ) (xs : List ViewedThing) → count_from weigh (least + 1) xs + room ≤ count_from weigh least xs
+      → length (heaviest weigh least room xs) ≡ count_from weigh (least + 1) xs + room
+  heaviest-full least room [] h = omega arith
+  heaviest-full least room (x ∷ xs) h =
+      let above = count-cons (least + 1) x xs in
+      let all = count-cons least x xs in
+      let c = count_from weigh (least + 1) xs in
+      let n = count_from weigh least xs in
+      let both : cond (nat_le (least + 1) (weigh x)) 1 0 + c + room ≤ cond (nat_le least (weigh x)) 1 0 + n = omega arith in
+      let enough = room-full least room (weigh x) c n (count-above least xs) both in
+      let rest = heaviest-full least (room_after least room (weigh x)) xs enough in
       let front = front-length (has_room least room (weigh x)) x (heaviest weigh least (room_after least room (weigh x)) xs) in
-      let count = count-cons (least + 1) x xs in
-      let more = one-more least room (weigh x) (length (heaviest weigh least (room_after least room (weigh x)) xs)) (count_from weigh (least + 1) xs) rest in
+      let own = one-full least room (weigh x) c in
       omega arith
 
   -- no thing weighs more than all of them do
@@ -83,11 +107,13 @@ weight-hit : (view : View) (times : List ℕ) (fault : Option ℕ) (x : ViewedTh
 weight-hit view times fault x e = rw e refl
 
 weight-other : (view : View) (times : List ℕ) (fault : Option ℕ) (x : ViewedThing) → is_hit fault x ≡ false → weight view times fault x < 4_611_686_018_427_387_904
-weight-other view times fault x e = rw e (by (is_trouble (outcome_at (event_at view.events x.ended))))
+weight-other view times fault x e = rw e (by (outcome_at (event_at view.events x.ended)) (time_until times x.opened x.ended))
   where
-    by : (b : Bool) → cond b 4_611_686_018_427_387_903 (min (time_until times x.opened x.ended) 4_611_686_018_427_387_902) < 4_611_686_018_427_387_904
-    by true = omega arith
-    by false = omega arith
+    by : (outcome : ThingOutcome) (millis : ℕ) → outcome_weight outcome millis < 4_611_686_018_427_387_904
+    by Open millis = omega arith
+    by Done millis = omega arith
+    by Failed millis = omega arith
+    by Canceled millis = omega arith
 
 weight-most : (view : View) (times : List ℕ) (fault : Option ℕ) (x : ViewedThing) → weight view times fault x ≤ 4_611_686_018_427_387_904
 weight-most view times fault x = by (is_hit fault x) refl
@@ -110,34 +136,39 @@ all-from weigh (x ∷ xs) =
     let own : nat_le 0 (weigh x) ≡ true = grind (arith, nat_tests) in
     count ∙ rw own (omega arith)
 
--- the things that are shown are few
-shown-few : (weigh : ViewedThing → ℕ) (things shown : List ViewedThing) → AreHeaviest weigh things shown → length shown ≤ 300
-shown-few weigh things shown h =
+-- of many things as many are shown as fit
+shown-full : (weigh : ViewedThing → ℕ) (things shown : List ViewedThing) → AreHeaviest weigh things shown → length shown ≡ 300
+shown-full weigh things shown h =
     let room = 300 - count_from weigh (h.least + 1) things in
-    let most = length-heaviest weigh h.least room things in
-    let same = ap length h.are in
     let fewer = h.is_least.fewer in
+    let enough = h.is_least.enough in
+    let fits : count_from weigh (h.least + 1) things + room ≤ count_from weigh h.least things = omega arith in
+    let full = heaviest-full weigh h.least room things fits in
+    let same = ap length h.are in
     omega arith
 
 placed-length : (view : View) (all : List ViewedThing) (firsts : List ℕ) (index : ℕ) (xs : List ViewedThing) → length (placed_from view all firsts index xs) ≡ length xs
 placed-length view all firsts index [] = refl
 placed-length view all firsts index (x ∷ xs) = let rest = placed-length view all firsts (index + 1) xs in omega arith
 
-few-or : (weigh : ViewedThing → ℕ) (things shown : List ViewedThing) (b : Bool) → nat_le (length things) 300 ≡ b → (length things ≤ 300 → shown ≡ things) → (300 < length things → AreHeaviest weigh things shown) → length shown ≤ 300
+few-or : (weigh : ViewedThing → ℕ) (things shown : List ViewedThing) (b : Bool) → nat_le (length things) 300 ≡ b → (length things ≤ 300 → shown ≡ things) → (300 < length things → AreHeaviest weigh things shown) → length shown ≡ min (length things) 300
 few-or weigh things shown true e few many =
     let small = leb-true (length things) 300 e in let same = ap length (few small) in omega arith
-few-or weigh things shown false e few many = shown-few weigh things shown (many (grind (arith, nat_tests)))
+few-or weigh things shown false e few many =
+    let large : 300 < length things = grind (arith, nat_tests) in let full = shown-full weigh things shown (many large) in omega arith
 
-pub things_are_few : ThingsAreFew
+-- a page has a lane for each thing that it shows
+pub lanes-length : (view : View) (times : List ℕ) (shown : List ViewedThing) → length (lanes_of view times (placed_things view shown)) ≡ length shown
+lanes-length view times shown =
+    length-map (placed_things view shown) (lane_of view times) ∙ placed-length view shown (firsts_of view shown) 0 shown
+
+pub things_are_as_many_as_fit : ThingsAreAsManyAsFit
 unfolding timed_page
-things_are_few view said page own =
+things_are_as_many_as_fit view said page own =
     let few = few-or _ view.things own.shown _ refl own.chosen.few own.chosen.many in
     let times = times_of view.events in
     let lanes : length page.lanes ≡ length (lanes_of view times (placed_things view own.shown)) = ap (λ one. length one.lanes) own.is in
-    let mapped : length (lanes_of view times (placed_things view own.shown)) ≡ length (placed_things view own.shown)
-    = length-map (placed_things view own.shown) (lane_of view times) in
-    let placed : length (placed_things view own.shown) ≡ length own.shown
-    = placed-length view own.shown (firsts_of view own.shown) 0 own.shown in
+    let each = lanes-length view times own.shown in
     omega arith
 
 least-low : (view : View) (times : List ℕ) (fault : Option ℕ) (least : ℕ) (xs : List ViewedThing) (b : Bool) → nat_lt 4_611_686_018_427_387_904 least ≡ b → 300 ≤ count_from (weight view times fault) least xs → least ≤ 4_611_686_018_427_387_904

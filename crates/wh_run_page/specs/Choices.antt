@@ -16,25 +16,24 @@ abbrev pub is_hit : (fault : Option ℕ) → ViewedThing → Bool
 is_hit None thing = false
 is_hit (Some at) thing = has_event thing at
 
--- a thing failed, or is open
-abbrev pub is_trouble : ThingOutcome → Bool
-is_trouble Open = true
-is_trouble Done = false
-is_trouble Failed = true
-is_trouble Canceled = false
-
 -- how long a thing took until the event at an index, in milliseconds; 0 if there is no such event
 abbrev pub time_until : List ℕ → (opened : ℕ) → Option ℕ → ℕ
 time_until times opened None = 0
 time_until times opened (Some ended) = get_or times ended 0 - get_or times opened 0
 
--- what a thing weighs: the most if it has the event of the fault, the next if it failed or is open, and else how long it
--- took
+-- what a thing of this outcome weighs that took so long
+abbrev pub outcome_weight : ThingOutcome → (millis : ℕ) → ℕ
+outcome_weight Open millis = 4_611_686_018_427_387_902
+outcome_weight Done millis = min millis 4_611_686_018_427_387_901
+outcome_weight Failed millis = 4_611_686_018_427_387_903
+outcome_weight Canceled millis = min millis 4_611_686_018_427_387_901
+
+-- what a thing weighs: the most if it has the event of the fault, the next if it failed, the next if it is open, and
+-- else how long it took
 abbrev pub weight : View → List ℕ → (fault : Option ℕ) → ViewedThing → ℕ
 weight view times fault thing =
     if is_hit fault thing then 4_611_686_018_427_387_904
-    else (if is_trouble (outcome_at (event_at view.events thing.ended)) then 4_611_686_018_427_387_903
-    else min (time_until times thing.opened thing.ended) 4_611_686_018_427_387_902)
+    else outcome_weight (outcome_at (event_at view.events thing.ended)) (time_until times thing.opened thing.ended)
 
 -- how many of the things weigh so much or more
 abbrev pub count_from : (weigh : ViewedThing → ℕ) → (least : ℕ) → List ViewedThing → ℕ

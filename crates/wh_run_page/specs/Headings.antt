@@ -6,11 +6,10 @@ use Rattle.wh_view.specs.declared.parts.EventUse.{EventUse}
 use Rattle.wh_view.specs.declared.parts.EventUse.TheVariants as words
 use Rattle.wh_view.specs.declared.view.View.{View}
 use Rattle.wh_view.specs.declared.view.ViewedEvent.{ViewedEvent}
-use Rattle.wh_view.specs.Lookups.{opening_of, event_id, event_type}
 use Rattle.wh_view.specs.Parts.{word_of}
 use Rattle.wh_run_page.specs.declared.headings.Sought.{Sought}
 use Rattle.wh_run_page.specs.declared.headings.Sought.TheVariants.{Start, Told, Given}
-use Rattle.wh_run_page.specs.Words.{thing_text}
+use Rattle.wh_run_page.specs.EventWords.{title_text}
 
 -- a workflow task starts with an event of the kind
 abbrev pub starting_kind : Option EventKind → Bool
@@ -45,12 +44,10 @@ count_like sought events = count_by (is_sought sought) events
 abbrev pub more_text : ℕ → List ℕ
 more_text count = if nat_lt 1 count then codes " and " ++ (decimal (count - 1) ++ codes " more") else []
 
--- a label, and the first of so many events by its name and its thing; nothing if there is none
+-- a label, and the first of so many events by its type and what it is about; nothing if there is none
 abbrev pub part_text : View → List ℕ → ℕ → Option ViewedEvent → List ℕ
 part_text view label count None = []
-part_text view label count (Some event) =
-    let opening = opening_of view event in
-    label ++ (event.read.name ++ (thing_text (event_type opening) (event_id opening) ++ more_text count))
+part_text view label count (Some event) = label ++ (title_text view event ++ more_text count)
 
 -- the heading of a task: its number, its activation jobs, and its commands
 unfoldable pub heading : View → ℕ → List ViewedEvent → List ℕ

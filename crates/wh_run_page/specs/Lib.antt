@@ -11,3 +11,4 @@ pub mod Laws
 pub mod Causes
 pub mod EventWords
 pub mod Waits
+pub mod Sums

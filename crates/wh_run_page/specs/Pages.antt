@@ -9,6 +9,7 @@ use Rattle.wh_run_page.specs.Moments.{times_of, moment_of, event_at, index_at}
 use Rattle.wh_run_page.specs.Choices.{AreChosen, weight}
 use Rattle.wh_run_page.specs.Rows.{firsts_of, row_count, placed_things}
 use Rattle.wh_run_page.specs.Lanes.{lanes_of}
+use Rattle.wh_run_page.specs.Sums.{sums_of}
 use Rattle.wh_run_page.specs.Tasks.{tasks_of}
 use Rattle.wh_run_page.specs.Facts.{facts_of, notes_of}
 use Rattle.wh_run_page.specs.Waits.{waits_of}
@@ -27,6 +28,7 @@ timed_page view times said shown =
       lanes = lanes_of view times (placed_things view shown);
       rows = row_count (firsts_of view shown);
       things = length view.things;
+      sums = sums_of view;
       tasks = tasks_of view times said.place;
       notes = notes_of view said.note;
     }

@@ -75,20 +75,22 @@ is_open _ = false
 abbrev pub outcome_of : View → ViewedThing → ThingOutcome
 outcome_of view thing = outcome_at (event_at view.events thing.ended)
 
--- how the first of a row stands there, with so many in all
+-- how the first of a row that is drawn stands there, in a row that tells of so many: the row tells of all that the run
+-- opened, of which so many are drawn, so many failed and so many are open
 abbrev pub first_part : View → List ViewedThing → ViewedThing → (count : ℕ) → RowPart
 first_part view all thing count =
     let shares : ViewedThing → Bool = λ other. share_row view (are_many all) thing other in
     if count == 1 then Alone
     else First count
-    (count_by (λ other. shares other && is_failed (outcome_of view other)) all)
-    (count_by (λ other. shares other && is_open (outcome_of view other)) all)
+    (count_by shares all)
+    (count_by (λ other. shares other && is_failed (outcome_of view other)) view.things)
+    (count_by (λ other. shares other && is_open (outcome_of view other)) view.things)
 
 -- how a thing at an index stands in its row, whose first thing has this index
 abbrev pub part_of : View → List ViewedThing → (index first : ℕ) → ViewedThing → RowPart
 part_of view all index first thing =
     if first == index
-    then first_part view all thing (count_by (λ other. share_row view (are_many all) thing other) all)
+    then first_part view all thing (count_by (λ other. share_row view (are_many all) thing other) view.things)
     else Later
 
 -- a thing at an index, with its row

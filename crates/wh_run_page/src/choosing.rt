@@ -17,11 +17,14 @@ const SHOWN: usize = 300;
 /// The weight of a thing that has the event of the fault: more than that of any other.
 const HIT: u64 = 4_611_686_018_427_387_904;
 
-/// The weight of a thing that failed, or is open.
-const TROUBLE: u64 = 4_611_686_018_427_387_903;
+/// The weight of a thing that failed.
+const FAILED: u64 = 4_611_686_018_427_387_903;
+
+/// The weight of a thing that is open.
+const PENDING: u64 = 4_611_686_018_427_387_902;
 
 /// The most that a thing weighs by how long it took.
-const SLOW: u64 = 4_611_686_018_427_387_902;
+const SLOW: u64 = 4_611_686_018_427_387_901;
 
 /// Returns whether there is an index and it is this one.
 fn is_index(at: usize, index: Option<usize>) -> bool
@@ -47,13 +50,6 @@ fn is_hit(fault: Option<usize>, thing: &ViewedThing) -> bool
     }
 }
 
-/// Returns whether a thing of this outcome failed, or is open.
-fn is_trouble(outcome: ThingOutcome) -> bool
-    ensures { result ≡ choices.is_trouble outcome }
-{
-    matches!(outcome, ThingOutcome::Open | ThingOutcome::Failed)
-}
-
 /// Returns the time at an index; 0 if there is none.
 fn time_at(times: &[u64], index: usize) -> u64
     ensures { result ≡ get_or times.now index 0 }
@@ -74,18 +70,28 @@ fn time_until(times: &[u64], opened: usize, ended: Option<usize>) -> u64
     }
 }
 
-/// Returns what a thing weighs: the most if it has the event of the fault, the next if it failed or
-/// is open, and else how long it took.
+/// Returns what a thing of this outcome weighs that took so long.
+fn outcome_weight(outcome: ThingOutcome, millis: u64) -> u64
+    ensures { result ≡ choices.outcome_weight outcome millis }
+{
+    match outcome {
+        ThingOutcome::Failed => FAILED,
+        ThingOutcome::Open => PENDING,
+        ThingOutcome::Done | ThingOutcome::Canceled => millis.min(SLOW),
+    }
+}
+
+/// Returns what a thing weighs: the most if it has the event of the fault, the next if it failed,
+/// the next if it is open, and else how long it took.
 fn weight_of(view: &View, times: &[u64], fault: Option<usize>, thing: &ViewedThing) -> u64
     ensures { result ≡ choices.weight view.now times.now fault thing.now }
 {
     let ending = event_at(view.events.get(), thing.ended);
     if is_hit(fault, thing) {
         HIT
-    } else if is_trouble(outcome_at(ending)) {
-        TROUBLE
     } else {
-        time_until(times, thing.opened, thing.ended).min(SLOW)
+        let millis = time_until(times, thing.opened, thing.ended);
+        outcome_weight(outcome_at(ending), millis)
     }
 }
 

@@ -6,12 +6,12 @@ ghost use Rattle.std.specs.List.{flat_map};
 ghost use Rattle.wh_run_page.specs.EventWords as words;
 
 use crate::causes::{EndingWords, Reason};
-use crate::words::{AfterLabel, ThingWords};
+use crate::words::{AfterLabel, MarkerNotes, ThingWords};
 use std::alloc::Global;
 use std::fmt;
 use wh_events::{OutOfMemory, Text};
-use wh_view::{View, ViewedEvent};
-use wh_view_report::{Attempt, mark_of};
+use wh_view::{MarkerKind, View, ViewedEvent};
+use wh_view_report::{Attempt, MarkerText, mark_of};
 
 /// Writes the values of an event.
 fn write_values<W: fmt::Write>(values: &[Text], f: &mut fmt::Formatter<W>) -> fmt::Result
@@ -36,6 +36,56 @@ impl fmt::Display for Values<'_> {
     }
 }
 
+/// What an event is about: what its marker records, or else its thing.
+#[derive(Drop)]
+struct Subject<'a>(&'a View, &'a ViewedEvent);
+
+impl fmt::Display for Subject<'_> {
+    ghost output = { λ s. Some (words.subject_text s.0.now s.1.now) };
+
+    fn fmt<W: fmt::Write>(&self, f: &mut fmt::Formatter<W>) -> fmt::Result {
+        match self.1.details.marker.kind {
+            MarkerKind::Other => {
+                let thing = ThingWords(self.0.opening_of(self.1));
+                write!(f, "{thing}")
+            }
+            _ => {
+                let marker = MarkerText(&self.1.details.marker);
+                write!(f, "{marker}")
+            }
+        }
+    }
+}
+
+/// An event by the plain name of its type, and by what it is about.
+#[derive(Drop)]
+pub(crate) struct EventTitle<'a>(pub(crate) &'a View, pub(crate) &'a ViewedEvent);
+
+impl fmt::Display for EventTitle<'_> {
+    ghost output = { λ t. Some (words.title_text t.0.now t.1.now) };
+
+    #[tactic(auto, unfolding(crate::specs::EventWords::title_text))]
+    fn fmt<W: fmt::Write>(&self, f: &mut fmt::Formatter<W>) -> fmt::Result {
+        let name = self.1.name();
+        let subject = Subject(self.0, self.1);
+        write!(f, "{name}{subject}")
+    }
+}
+
+/// The attempt of an event, and what else is noted of its marker.
+#[derive(Drop)]
+struct Notes<'a>(&'a ViewedEvent);
+
+impl fmt::Display for Notes<'_> {
+    ghost output = { λ n. Some (words.notes_text n.0.now) };
+
+    fn fmt<W: fmt::Write>(&self, f: &mut fmt::Formatter<W>) -> fmt::Result {
+        let attempt = Attempt(self.0.attempt);
+        let marker = MarkerNotes(&self.0.details.marker);
+        write!(f, "{attempt}{marker}")
+    }
+}
+
 /// Returns the text of an event.
 #[tactic(auto, unfolding(crate::specs::EventWords::event_words))]
 pub(crate) fn event_words(
@@ -45,16 +95,12 @@ pub(crate) fn event_words(
 ) -> Result<Text, OutOfMemory>
     ensures { IfOk result (λ text. text ≡ words.event_words view.now event.now) }
 {
-    let opening = view.opening_of(event);
-    let name = event.read.name.get();
-    let thing = ThingWords(opening);
-    let attempt = Attempt(event.attempt);
+    let title = EventTitle(view, event);
+    let notes = Notes(event);
     let duration = AfterLabel(", ", event.duration.get());
     let reason = Reason(", because ", event);
     let ending = EndingWords(event);
     let mark = AfterLabel(", ", mark_of(view, event));
     let values = Values(event.payloads.get());
-    Ok(Text::new(format!(in alloc;
-        "{name}{thing}{attempt}{duration}{reason}{ending}{mark}{values}"
-    )?))
+    Ok(Text::new(format!(in alloc; "{title}{notes}{duration}{reason}{ending}{mark}{values}")?))
 }

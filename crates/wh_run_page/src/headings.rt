@@ -3,7 +3,7 @@
 ghost use Rattle.std.specs.Prelude.{◌≡◌, Some, IfOk, option_map};
 ghost use Rattle.wh_run_page.specs.Headings as headings;
 
-use crate::words::ThingWords;
+use crate::event_words::EventTitle;
 use std::alloc::Global;
 use std::fmt;
 use wh_events::{EventKind, OutOfMemory, Text};
@@ -88,10 +88,9 @@ impl fmt::Display for First<'_> {
         match self.event {
             Some(event) => {
                 let label = self.label;
-                let name = event.read.name.get();
-                let thing = ThingWords(self.view.opening_of(event));
+                let title = EventTitle(self.view, event);
                 let more = MoreCount(self.count);
-                write!(f, "{label}{name}{thing}{more}")
+                write!(f, "{label}{title}{more}")
             }
             None => Ok(()),
         }

@@ -1,16 +1,19 @@
 //! The things of a run, as the lanes of its page.
 
-ghost use Rattle.std.specs.Prelude.{◌≡◌, IfOk, option_map};
+ghost use Rattle.std.specs.Prelude.{◌≡◌, Some, IfOk, option_map};
 ghost use Rattle.wh_run_page.specs.Lanes as lanes;
+ghost use Rattle.wh_view_report.specs.Spans.{time_taken};
 
 use crate::causes::{EndingWords, Reason};
 use crate::moments::{event_at, moment_if, moment_or};
 use crate::rows::PlacedThing;
-use crate::words::copy_text;
+use crate::words::{MarkerNotes, copy_text, span_text};
 use std::alloc::Global;
+use std::fmt;
 use wh_events::{EventKind, OutOfMemory, Text};
-use wh_html::{Kind, Lane, ThingOutcome};
-use wh_view::{ThingKind, View, ViewedEvent, ViewedThing};
+use wh_html::{Kind, Lane, Moment, ThingOutcome};
+use wh_view::{MarkerKind, ThingKind, View, ViewedEvent, ViewedThing};
+use wh_view_report::marker_words;
 
 /// Returns the kind of a lane.
 pub(crate) fn lane_kind(kind: ThingKind) -> Kind
@@ -26,27 +29,42 @@ pub(crate) fn lane_kind(kind: ThingKind) -> Kind
     }
 }
 
-/// Returns the outcome of a thing that ended with an event of the kind.
-fn outcome_by(kind: &EventKind) -> ThingOutcome
-    ensures { result ≡ lanes.outcome_by kind.now }
+/// Returns whether what ends with an event of the kind was canceled.
+fn is_canceling(kind: &EventKind) -> bool
+    ensures { result ≡ lanes.is_canceling kind.now }
 {
-    match kind {
-        EventKind::ActivityTaskFailed { .. }
-        | EventKind::ActivityTaskTimedOut { .. }
-        | EventKind::ChildWorkflowExecutionFailed { .. }
-        | EventKind::ChildWorkflowExecutionTimedOut { .. }
-        | EventKind::ChildWorkflowExecutionTerminated { .. }
-        | EventKind::StartChildWorkflowExecutionFailed { .. }
-        | EventKind::RequestCancelExternalWorkflowExecutionFailed { .. }
-        | EventKind::SignalExternalWorkflowExecutionFailed { .. } => ThingOutcome::Failed,
+    matches!(
+        kind,
         EventKind::ActivityTaskCanceled { .. }
-        | EventKind::TimerCanceled { .. }
-        | EventKind::ChildWorkflowExecutionCanceled { .. } => ThingOutcome::Canceled,
-        _ => ThingOutcome::Done,
+            | EventKind::TimerCanceled { .. }
+            | EventKind::ChildWorkflowExecutionCanceled { .. }
+    )
+}
+
+/// Returns whether what ends with the event was canceled.
+fn is_cancellation(event: &ViewedEvent) -> bool
+    ensures { result ≡ lanes.is_cancellation event.now }
+{
+    match &event.read.kind {
+        Some(kind) => is_canceling(kind),
+        None => false,
     }
 }
 
-/// Returns that outcome in a word.
+/// Returns the outcome of a thing that ended with the event.
+fn outcome_by(event: &ViewedEvent) -> ThingOutcome
+    ensures { result ≡ lanes.outcome_by event.now }
+{
+    if event.is_failure() {
+        ThingOutcome::Failed
+    } else if is_cancellation(event) {
+        ThingOutcome::Canceled
+    } else {
+        ThingOutcome::Done
+    }
+}
+
+/// Returns the outcome of a thing that ended with an event of the kind, in a word.
 fn outcome_word(kind: &EventKind) -> &'static str
     ensures { result.now ≡ lanes.outcome_word kind.now }
 {
@@ -75,12 +93,9 @@ fn outcome_word(kind: &EventKind) -> &'static str
 pub(crate) fn outcome_at(ending: Option<&ViewedEvent>) -> ThingOutcome
     ensures { result ≡ lanes.outcome_at (option_map (λ e. e.now) ending.entry) }
 {
-    let Some(event) = ending else {
-        return ThingOutcome::Open;
-    };
-    match &event.read.kind {
-        Some(kind) => outcome_by(kind),
-        None => ThingOutcome::Done,
+    match ending {
+        Some(event) => outcome_by(event),
+        None => ThingOutcome::Open,
     }
 }
 
@@ -94,18 +109,101 @@ fn word_of(event: &ViewedEvent) -> &'static str
     }
 }
 
-/// Returns the outcome of a thing in words, with the failure and its causes, and why it was
-/// not tried again.
-fn outcome_words(alloc: Global, ending: Option<&ViewedEvent>) -> Result<Text, OutOfMemory>
-    ensures { IfOk result (λ words. words ≡ lanes.outcome_words (option_map (λ e. e.now) ending.entry)) }
+/// The outcome of a thing that ended with the event: the version of a change, or else a word.
+#[derive(Drop)]
+struct EndWord<'a>(&'a ViewedEvent);
+
+impl fmt::Display for EndWord<'_> {
+    ghost output = { λ e. Some (lanes.end_word e.0.now) };
+
+    fn fmt<W: fmt::Write>(&self, f: &mut fmt::Formatter<W>) -> fmt::Result {
+        let marker = &self.0.details.marker;
+        match (marker.kind, marker.number) {
+            (MarkerKind::Version, Some(number)) => write!(f, "version {number}"),
+            _ => {
+                let word = word_of(self.0);
+                write!(f, "{word}")
+            }
+        }
+    }
+}
+
+/// The outcome of a thing that ended with the event, with what else is noted of a marker.
+#[derive(Drop)]
+struct EndWords<'a>(&'a ViewedEvent);
+
+impl fmt::Display for EndWords<'_> {
+    ghost output = { λ e. Some (lanes.end_words e.0.now) };
+
+    fn fmt<W: fmt::Write>(&self, f: &mut fmt::Formatter<W>) -> fmt::Result {
+        let word = EndWord(self.0);
+        let notes = MarkerNotes(&self.0.details.marker);
+        write!(f, "{word}{notes}")
+    }
+}
+
+/// The event that requested the cancellation of a thing, after other words; nothing if none did.
+#[derive(Clone, Copy)]
+struct CancelWords(Option<Moment>);
+
+impl fmt::Display for CancelWords {
+    ghost output = { λ c. Some (lanes.cancel_words c.0) };
+
+    fn fmt<W: fmt::Write>(&self, f: &mut fmt::Formatter<W>) -> fmt::Result {
+        match self.0 {
+            Some(moment) => {
+                let event = moment.event;
+                write!(f, ", cancellation requested by event {event}")
+            }
+            None => Ok(()),
+        }
+    }
+}
+
+/// Returns the outcome of a thing in words, with the failure and its causes, why it was not tried
+/// again, and the event that requested its cancellation.
+fn outcome_words(
+    alloc: Global,
+    ending: Option<&ViewedEvent>,
+    cancelling: Option<Moment>,
+) -> Result<Text, OutOfMemory>
+    ensures { IfOk result (λ words.
+        words ≡ lanes.outcome_words (option_map (λ e. e.now) ending.entry) cancelling) }
 {
+    let cancel = CancelWords(cancelling);
     let Some(event) = ending else {
-        return copy_text(alloc, "open");
+        return Ok(Text::new(format!(in alloc; "open{cancel}")?));
     };
-    let word = word_of(event);
+    let word = EndWords(event);
     let reason = Reason(": ", event);
     let ending = EndingWords(event);
-    Ok(Text::new(format!(in alloc; "{word}{reason}{ending}")?))
+    Ok(Text::new(format!(in alloc; "{word}{reason}{ending}{cancel}")?))
+}
+
+/// Returns the type of what an event opened: of what a marker records its name, but of a side
+/// effect its kind.
+fn lane_type(event: &ViewedEvent) -> &str
+    ensures { result.now ≡ lanes.lane_type event.now }
+{
+    let marker = &event.details.marker;
+    match marker.kind {
+        MarkerKind::Other => event.type_name(),
+        MarkerKind::SideEffect => marker_words(MarkerKind::SideEffect),
+        _ => marker.name.get(),
+    }
+}
+
+/// Returns the id beside that type: of what a marker records its kind, but of a side effect its
+/// name.
+fn lane_id(event: &ViewedEvent) -> &str
+    ensures { result.now ≡ lanes.lane_id event.now }
+{
+    let marker = &event.details.marker;
+    match marker.kind {
+        MarkerKind::Other => event.id(),
+        MarkerKind::SideEffect => marker.name.get(),
+        kind => marker_words(kind),
+    }
 }
 
 /// Returns the id of what an event opened; empty if there is no event.
@@ -113,7 +211,7 @@ pub(crate) fn id_at<'v>(opening: Option<&'v ViewedEvent>) -> &'v str
     ensures { result.now ≡ lanes.id_at (option_map (λ e. e.now) opening.entry) }
 {
     match opening {
-        Some(event) => event.id(),
+        Some(event) => lane_id(event),
         None => "",
     }
 }
@@ -123,7 +221,7 @@ pub(crate) fn type_at<'v>(opening: Option<&'v ViewedEvent>) -> &'v str
     ensures { result.now ≡ lanes.type_at (option_map (λ e. e.now) opening.entry) }
 {
     match opening {
-        Some(event) => event.type_name(),
+        Some(event) => lane_type(event),
         None => "",
     }
 }
@@ -166,6 +264,30 @@ fn later_end(thing: &ViewedThing) -> Option<usize>
     }
 }
 
+/// Returns how long a thing took, in milliseconds: from its start to its end, or from its opening
+/// if it was not started; `None` if it has not ended, or that is not known.
+fn time_taken(view: &View, thing: &ViewedThing) -> Option<u64>
+    ensures { result ≡ time_taken view.now thing.now }
+{
+    if thing.started.is_some() {
+        view.work_time(thing)
+    } else {
+        view.whole_time(thing)
+    }
+}
+
+/// Returns how long a thing took, in milliseconds, as the lines of its events tell it: nothing of
+/// what ended with the event that opened it.
+fn time_told(view: &View, thing: &ViewedThing) -> Option<u64>
+    ensures { result ≡ lanes.time_told view.now thing.now }
+{
+    if later_end(thing).is_some() {
+        time_taken(view, thing)
+    } else {
+        None
+    }
+}
+
 /// Returns the lane of a thing with its row.
 #[tactic(auto, unfolding(crate::specs::Lanes::lane_of))]
 fn lane_of(
@@ -183,14 +305,20 @@ fn lane_of(
     let ending = event_at(events, thing.ended);
     let name = copy_text(alloc, id_at(opening))?;
     let type_name = text_if(alloc, type_at(opening))?;
-    let words = outcome_words(alloc, ending)?;
+    let cancelling = moment_if(times, event_at(events, thing.cancelling));
+    let words = outcome_words(alloc, ending, cancelling)?;
+    let waited = span_text(alloc, view.queue_time(thing))?;
+    let took = span_text(alloc, time_told(view, thing))?;
     Ok(Lane {
         kind: lane_kind(thing.kind),
         name,
         type_name,
         opened: moment_or(times, opening),
         started: moment_if(times, starting),
+        cancelling,
         ended: moment_if(times, event_at(events, later_end(thing))),
+        waited,
+        took,
         outcome: outcome_at(ending),
         words,
         attempts: attempt_at(starting),

@@ -1,5 +1,5 @@
 //! What holds of every page of a run, each law as the contract of a function that does nothing.
-ghost use Rattle.wh_run_page.specs.Laws.{GroupsAreRuns, LinesAreAllEvents, ThingsAreFew, FaultIsShown};
+ghost use Rattle.wh_run_page.specs.Laws.{GroupsAreRuns, LinesAreAllEvents, ThingsAreAsManyAsFit, FaultIsShown, WorstAreShown, RowsAreTold, RowsAddUp, RowsTellOfTheirThings};
 
 /// If each group is written out as the number of its task, once for each of its events, the result
 /// is the list of the tasks to which the events belong, in their order. No two adjacent groups are
@@ -15,9 +15,21 @@ pub fn lines_are_all_events()
     ensures { LinesAreAllEvents }
 {}
 
-/// A page shows no more than 300 things. If the event of the fault opened, started or ended a
-/// thing, the page shows such a thing.
+/// A page shows all things, or just 300 of more. If the event of the fault opened, started or ended a
+/// thing, the page shows such a thing. A thing that failed is left out only if each that is shown
+/// has the event of the fault or failed; one that is open, only if each that is shown has that
+/// event, failed or is open; any other, only if each that is shown does, or took as long.
 pub fn faults_are_shown()
-    ensures few { ThingsAreFew }
+    ensures fit { ThingsAreAsManyAsFit }
     ensures fault { FaultIsShown }
+    ensures worst { WorstAreShown }
+{}
+
+/// As many lanes of a page tell of their row as the page has rows; the others are later ones. What
+/// they say is drawn in their rows adds up to all lanes. No row tells that more things are drawn, or
+/// that more failed or are open, than it has.
+pub fn rows_are_told()
+    ensures told { RowsAreTold }
+    ensures sum { RowsAddUp }
+    ensures things { RowsTellOfTheirThings }
 {}

@@ -14,6 +14,7 @@ mod moments;
 mod page;
 mod rows;
 mod said;
+mod sums;
 mod tasks;
 mod waits;
 mod words;

@@ -9,6 +9,7 @@ use crate::lanes::lanes_of;
 use crate::moments::{event_at, index_at, moment_if, times_of};
 use crate::rows::{firsts_of, placed_things, row_count};
 use crate::said::Said;
+use crate::sums::sums_of;
 use crate::tasks::tasks_of;
 use crate::waits::waits_of;
 use std::alloc::Global;
@@ -32,6 +33,7 @@ fn timed_page(
     let firsts = firsts_of(alloc, view, shown)?;
     let placed = placed_things(alloc, view, shown, firsts.as_slice())?;
     let lanes = Items::new(lanes_of(alloc, view, times, placed.as_slice())?);
+    let sums = Items::new(sums_of(alloc, view)?);
     let tasks = Items::new(tasks_of(alloc, view, times, said.place)?);
     let notes = Items::new(notes_of(alloc, view, said.note)?);
     let fault = moment_if(times, event_at(view.events.get(), index_at(said.place)));
@@ -46,6 +48,7 @@ fn timed_page(
         lanes,
         rows: row_count(firsts.as_slice()),
         things: view.things.get().len(),
+        sums,
         tasks,
         notes,
     })
@@ -56,10 +59,16 @@ fn timed_page(
 /// Its title, verdict, difference and first note come from `said`, and its fault is the event at
 /// the place in `said`. Each thing of the view has a lane, in the order of the view: with the id
 /// and the type of the event that opened it, the moments of the events that opened, started and
-/// ended it, the outcome by the event that ended it, and the attempt of the event that started it.
-/// Of more than 300 things those have one that have the event of the fault, then those that failed
-/// or are open, and then the slowest. Each has its own row of the picture; of more than 40 lanes
-/// those of one type share a row.
+/// ended it and that requested its cancellation, how long it waited for its start and how long it
+/// took from there, the outcome by the event that ended it, and the attempt of the event that
+/// started it. In place of a type and an id a marker of an SDK has the name and the kind of what it
+/// records, but a side effect its kind and its id. The outcome of a version is its number. Of more
+/// than 300 things those have one that have the event of the fault, then those
+/// that failed, then those that are open, and then the slowest. Each has its own row of the
+/// picture; of more than 40 lanes those of one type share a row, which tells how many of the type
+/// the run opened, how many of these have a lane, how many failed and how many are open. The page
+/// has the sums of the view, of each type the count, the median of the times, and the longest with
+/// its event.
 /// Adjacent events that belong to one task are one task of the page. Each of them has a line,
 /// except `WorkflowTaskScheduled` and `WorkflowTaskStarted`; the sides of the lines separate
 /// activation jobs, commands, and what else is recorded. The event of the fault always has a line,

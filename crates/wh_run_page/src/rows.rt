@@ -145,43 +145,53 @@ fn outcome_of(view: &View, thing: &ViewedThing) -> ThingOutcome
 }
 
 /// Returns how many of the things share a row with this one.
-fn sharer_count(view: &View, all: &[ViewedThing], thing: &ViewedThing) -> usize
+fn sharer_count(
+    view: &View,
+    all: &[ViewedThing],
+    thing: &ViewedThing,
+    things: &[ViewedThing],
+) -> usize
     ensures { let many = rows.are_many all.now in
-        result ≡ count_by (λ other. rows.share_row view.now many thing.now other) all.now }
+        result ≡ count_by (λ other. rows.share_row view.now many thing.now other) things.now }
 {
     let many = are_many(all);
-    all.iter()
+    things
+        .iter()
         .filter(|other| share_row(view, many, thing, other))
         .count()
 }
 
-/// Returns how many of these failed.
+/// Returns how many of the things that the run opened share a row with this one, and failed.
 fn failed_count(view: &View, all: &[ViewedThing], thing: &ViewedThing) -> usize
     ensures { let many = rows.are_many all.now in result
         ≡ count_by (λ other. rows.share_row view.now many thing.now other
-        && rows.is_failed (rows.outcome_of view.now other)) all.now }
+        && rows.is_failed (rows.outcome_of view.now other)) view.now.things }
 {
     let many = are_many(all);
-    all.iter()
+    let things = view.things.get();
+    things
+        .iter()
         .filter(|other| {
             share_row(view, many, thing, other) && is_failed(outcome_of(view, other))
         })
         .count()
 }
 
-/// Returns how many of these are open.
+/// Returns how many of the things that the run opened share a row with this one, and are open.
 fn open_count(view: &View, all: &[ViewedThing], thing: &ViewedThing) -> usize
     ensures { let many = rows.are_many all.now in result
         ≡ count_by (λ other. rows.share_row view.now many thing.now other
-        && rows.is_open (rows.outcome_of view.now other)) all.now }
+        && rows.is_open (rows.outcome_of view.now other)) view.now.things }
 {
     let many = are_many(all);
-    all.iter()
+    let things = view.things.get();
+    things
+        .iter()
         .filter(|other| { share_row(view, many, thing, other) && is_open(outcome_of(view, other)) })
         .count()
 }
 
-/// Returns how the first of a row stands there, with so many in all.
+/// Returns how the first of a row that is drawn stands there, in a row that tells of so many.
 fn first_part(view: &View, all: &[ViewedThing], thing: &ViewedThing, count: usize) -> RowPart
     ensures { result ≡ rows.first_part view.now all.now thing.now count }
 {
@@ -190,6 +200,7 @@ fn first_part(view: &View, all: &[ViewedThing], thing: &ViewedThing, count: usiz
     }
     RowPart::First {
         things: count,
+        drawn: sharer_count(view, all, thing, all),
         failed: failed_count(view, all, thing),
         pending: open_count(view, all, thing),
     }
@@ -206,7 +217,8 @@ fn part_of(
     ensures { result ≡ rows.part_of view.now all.now index first thing.now }
 {
     if first == index {
-        first_part(view, all, thing, sharer_count(view, all, thing))
+        let count = sharer_count(view, all, thing, view.things.get());
+        first_part(view, all, thing, count)
     } else {
         RowPart::Later
     }

@@ -7,7 +7,8 @@ ghost use Rattle.wh_view.specs.Lookups.{event_id, event_type};
 use std::alloc::Global;
 use std::fmt;
 use wh_events::{OutOfMemory, Text};
-use wh_view::ViewedEvent;
+use wh_view::{RecordedMarker, ViewedEvent};
+use wh_view_report::{DeprecatedText, SpanText, Tries};
 
 /// A text after a label; nothing if the text is empty.
 #[derive(Drop)]
@@ -44,9 +45,36 @@ impl fmt::Display for ThingWords<'_> {
     }
 }
 
+/// Returns a length of time in milliseconds in words, if it is known.
+pub(crate) fn span_text(alloc: Global, millis: Option<u64>) -> Result<Option<Text>, OutOfMemory>
+    ensures { IfOk result (λ text. text ≡ words.span_text millis) }
+{
+    match millis {
+        Some(millis) => {
+            let span = SpanText(millis);
+            Ok(Some(Text::new(format!(in alloc; "{span}")?)))
+        }
+        None => Ok(None),
+    }
+}
+
 /// Copies a text.
 pub(crate) fn copy_text(alloc: Global, text: &str) -> Result<Text, OutOfMemory>
     ensures { IfOk result (λ copy. copy ≡ text.now) }
 {
     Ok(Text::new(String::from_str(alloc, text)?))
+}
+
+/// What else is noted of a marker: the attempt of a local activity, and that a patch is deprecated.
+#[derive(Drop)]
+pub(crate) struct MarkerNotes<'a>(pub(crate) &'a RecordedMarker);
+
+impl fmt::Display for MarkerNotes<'_> {
+    ghost output = { λ m. Some (words.marker_notes m.0.now) };
+
+    fn fmt<W: fmt::Write>(&self, f: &mut fmt::Formatter<W>) -> fmt::Result {
+        let tries = Tries(self.0.kind, self.0.number);
+        let deprecated = DeprecatedText(self.0.deprecated);
+        write!(f, "{tries}{deprecated}")
+    }
 }
