@@ -15,10 +15,10 @@ use wh_console::Console;
 use wh_crew::LiveEnd;
 use wh_diagnostics::{Failure, print};
 use wh_events::{OutOfMemory, Text};
-use wh_file_commands::{explain_path, page_path, query_path, view_path};
+use wh_file_commands::{explain_path, page_path, query_path, view_paths};
 use wh_replay_command::replay_paths;
 use wh_service_command::serve_folder;
-use wh_table_commands::{check_paths, picture_path, try_path};
+use wh_table_commands::{check_paths, picture_path, try_paths};
 use wh_work::{
     BadPolicies, LivePlan, LiveReport, PlanFault, PolicyFaultText, live_plan, live_status,
 };
@@ -118,9 +118,10 @@ where
         } => page_path::<W, R, O, E>(rt, file, only_recorded, console),
         Plan::View {
             file,
+            more,
             selection,
             format,
-        } => view_path::<R, O, E>(rt, file, selection, format, console),
+        } => view_paths::<R, O, E>(rt, file, more, selection, format, console),
         Plan::Query {
             file,
             query_type,
@@ -131,7 +132,12 @@ where
             check_paths::<R, O, E>(rt, file, more, format, console)
         }
         Plan::Picture { file } => picture_path::<R, O, E>(rt, file, console),
-        Plan::Try { file, scenario } => try_path::<R, O, E>(rt, file, scenario, console),
+        Plan::Try {
+            file,
+            more,
+            scenario,
+            format,
+        } => try_paths::<R, O, E>(rt, file, more, scenario, format, console),
         Plan::Serve {
             dir,
             options,

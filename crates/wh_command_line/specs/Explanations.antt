@@ -1,8 +1,8 @@
 -- The arguments of `explain`, and its plans.
-use Rattle.std.specs.Prelude.{◌≡◌, ◌≢◌, ◌⊎◌, ℕ, Bool, true, false, List, codes, Option, Some, None}
-use Rattle.clap.specs.Words.{Row}
+use Rattle.std.specs.Prelude.{◌≡◌, ◌≢◌, ◌⊎◌, ℕ, Bool, true, false, List, [], codes, Option, Some, None}
+use Rattle.clap.specs.Words.{Row, Text}
 use Rattle.wh_console.specs.declared.format.Format.TheVariants as formats
-use Rattle.wh_command_line.specs.Given.{GivesFile, GivesFlag, GivesFormat, LacksText, MayGiveWithin, value_named}
+use Rattle.wh_command_line.specs.Given.{GivesFlag, GivesFormat, GivesMore, GivesPaths, LacksText, MayGiveWithin, value_named}
 use Rattle.wh_command_line.specs.declared.command_line.Plan.{Plan}
 use Rattle.wh_command_line.specs.declared.command_line.Plan.TheVariants.{Explain, View, Page}
 use Rattle.wh_command_line.specs.declared.explain.Choice.{Choice}
@@ -47,30 +47,34 @@ GivesRecorded rows recorded = GivesFlag (codes "recorded") rows recorded
 abbrev pub GivesHtml : List Row → Bool → Type 0
 GivesHtml rows html = GivesFlag (codes "html") rows html
 
--- the selection, or all tasks if there is none
-abbrev pub otherwise_all : Option Selection → Selection
-otherwise_all None = All
-otherwise_all (Some selection) = selection
+-- the rows select some of the tasks, or all
+abbrev pub SelectsTasks : List Row → Type 0
+SelectsTasks rows = (given : Option Selection) × GivesSelection rows given × (given ≢ None)
 
--- the selection of a report of what is recorded: the tasks that the rows select, or all
-abbrev pub GivesView : List Row → Selection → Type 0
-GivesView rows selection = (given : Option Selection) × GivesSelection rows given × (selection ≡ otherwise_all given)
+-- there is one file, or no tasks are selected
+abbrev pub MaySelect : (more : List Text) → Option Selection → Type 0
+MaySelect more selection = (more ≡ []) ⊎ (selection ≡ None)
 
 -- the plan is what the rows ask for: a page, what is recorded, or else an explanation of the replay
 abbrev pub GivesExplanation : List Row → Plan → Type 0
-GivesExplanation rows (Explain file selection format) = GivesFile rows file × GivesFormat rows format
+GivesExplanation rows (Explain file selection format) = GivesPaths rows file [] × GivesFormat rows format
     × GivesRecorded rows false × GivesHtml rows false × GivesSelection rows selection
-GivesExplanation rows (View file selection format) = GivesFile rows file × GivesFormat rows format
-    × GivesRecorded rows true × GivesHtml rows false × GivesView rows selection
-GivesExplanation rows (Page file only_recorded) = GivesFile rows file × GivesFormat rows formats.Text
+GivesExplanation rows (View file more selection format) = GivesPaths rows file more.items × GivesFormat rows format
+    × GivesRecorded rows true × GivesHtml rows false × GivesSelection rows selection × MaySelect more.items selection
+GivesExplanation rows (Page file only_recorded) = GivesPaths rows file [] × GivesFormat rows formats.Text
     × GivesRecorded rows only_recorded × GivesHtml rows true × GivesSelection rows None
 GivesExplanation rows _ = ⊥
 
--- the rows ask for a page, together with another format or a selection of tasks
+-- the rows ask for a page, together with another format, a selection of tasks or more files
 abbrev pub MixesPage : List Row → Type 0
-MixesPage rows = GivesHtml rows true
-    × (GivesFormat rows formats.Json ⊎ ((given : Option Selection) × GivesSelection rows given × (given ≢ None)))
+MixesPage rows = GivesHtml rows true × (GivesFormat rows formats.Json ⊎ (SelectsTasks rows ⊎ GivesMore rows))
 
--- the rows lack the file, or their selection is malformed, or they ask for a page together with something else
+-- the rows give more files, together with a selection of tasks or for an explanation of the replay
+abbrev pub MixesFiles : List Row → Type 0
+MixesFiles rows = GivesMore rows × (SelectsTasks rows ⊎ GivesRecorded rows false)
+
+-- the rows lack a file, or their selection is malformed, or they ask for a page together with something else, or give
+-- more files together with something else
 abbrev pub LacksExplanation : List Row → Type 0
-LacksExplanation rows = LacksText (codes "FILE") rows ⊎ (LacksSelection rows ⊎ MixesPage rows)
+LacksExplanation rows =
+    LacksText (codes "DIR") rows ⊎ (LacksSelection rows ⊎ (MixesPage rows ⊎ MixesFiles rows))

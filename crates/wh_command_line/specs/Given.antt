@@ -1,5 +1,5 @@
 -- What the words of a subcommand give under names. `clap` puts them into rows.
-use Rattle.std.specs.Prelude.{◌≡◌, ◌⊎◌, ℕ, ◌≤◌, Bool, true, false, List, [], ◌∷◌, codes, Option, Some, None, option_map}
+use Rattle.std.specs.Prelude.{◌≡◌, ◌≢◌, ◌⊎◌, ℕ, ◌≤◌, Bool, true, false, List, [], ◌∷◌, codes, Option, Some, None, option_map}
 use Rattle.std.specs.Str.Parse.{IsNumeral, digits_value, without_leading_plus}
 use Rattle.clap.specs.Words.{Row, Text, all_of, first_of, one_of}
 use Rattle.wh_console.specs.declared.format.Format.{Format}
@@ -29,6 +29,10 @@ GivesFile rows file = GivesText (codes "FILE") rows file
 pub record GivesPaths (rows : List Row) (dir : Text) (more : List Text) : Type 0 where
   pub gives_folder : GivesFolder rows dir
   pub gives_all : all_of (codes "DIR") rows ≡ Some (dir ∷ more)
+
+-- the rows give more than one path
+abbrev pub GivesMore : List Row → Type 0
+GivesMore rows = (first : Text) × (more : List Text) × GivesPaths rows first more × (more ≢ [])
 
 -- the rows give a flag: its row says whether it is set
 pub record GivesFlag (name : Text) (rows : List Row) (flag : Bool) : Type 0 where

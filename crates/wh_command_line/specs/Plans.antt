@@ -10,7 +10,7 @@ use Rattle.wh_command_line.specs.Options.{GivesFewSlots}
 use Rattle.wh_command_line.specs.Queries.{GivesQuery, LacksQuery}
 use Rattle.wh_command_line.specs.Replays.{GivesReplay}
 use Rattle.wh_command_line.specs.Sizes.{GivesAllWithin, GivesNumbers}
-use Rattle.wh_command_line.specs.Tables.{GivesCheck, GivesTrial, LacksCheck}
+use Rattle.wh_command_line.specs.Tables.{GivesCheck, GivesTrial, LacksCheck, LacksTrial}
 use Rattle.wh_command_line.specs.Work.{GivesFewWorkSlots, GivesWork, LacksWork}
 use Rattle.wh_command_line.specs.declared.command_line.Plan.{Plan}
 use Rattle.wh_command_line.specs.declared.command_line.Plan.TheVariants.{Replay, Explain, View, Page, Query, Check, Picture, Try, Serve, Work, Help}
@@ -26,12 +26,13 @@ IsGiven name rows (Replay dir more options) =
     (name ≡ codes "replay") × GivesPaths rows dir more.items × GivesReplay rows options
 IsGiven name rows (Explain file selection format) =
     (name ≡ codes "explain") × GivesExplanation rows (Explain file selection format)
-IsGiven name rows (View file selection format) =
-    (name ≡ codes "explain") × GivesExplanation rows (View file selection format)
+IsGiven name rows (View file more selection format) =
+    (name ≡ codes "explain") × GivesExplanation rows (View file more selection format)
 IsGiven name rows (Page file only_recorded) = (name ≡ codes "explain") × GivesExplanation rows (Page file only_recorded)
 IsGiven name rows (Check file more format) = (name ≡ codes "check") × GivesCheck rows (Check file more format)
 IsGiven name rows (Picture file) = (name ≡ codes "check") × GivesCheck rows (Picture file)
-IsGiven name rows (Try file scenario) = (name ≡ codes "try") × GivesTrial rows (Try file scenario)
+IsGiven name rows (Try file more scenario format) =
+    (name ≡ codes "try") × GivesTrial rows (Try file more scenario format)
 IsGiven name rows (Query file query_type input format) =
     (name ≡ codes "query") × GivesQuery rows (Query file query_type input format)
 IsGiven name rows (Serve dir options require_files progress) = (name ≡ codes "serve") × GivesFolder rows dir
@@ -97,14 +98,14 @@ IsNoCommand name = (name ≢ codes "replay") × (name ≢ codes "explain") × (n
     × (name ≢ codes "check") × (name ≢ codes "try") × (name ≢ codes "serve") × (name ≢ codes "work")
 
 -- the rows are invalid for the subcommand: they lack its path or name, or a number within its limits, or select tasks
--- twice, or ask for a page together with something else
+-- twice, or ask for a page together with something else, or give more files than the rest of them allows
 abbrev pub IsBadGiven : Text → List Row → Type 0
 IsBadGiven name rows =
     ((name ≡ codes "replay") × LacksText (codes "DIR") rows)
     ⊎ (((name ≡ codes "explain") × LacksExplanation rows)
     ⊎ (((name ≡ codes "query") × LacksQuery rows)
     ⊎ (((name ≡ codes "check") × LacksCheck rows)
-    ⊎ (((name ≡ codes "try") × LacksText (codes "FILE") rows)
+    ⊎ (((name ≡ codes "try") × LacksTrial rows)
     ⊎ (((name ≡ codes "serve") × LacksService rows)
     ⊎ (((name ≡ codes "work") × LacksWork rows) ⊎ IsNoCommand name))))))
 

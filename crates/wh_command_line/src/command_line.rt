@@ -56,12 +56,14 @@ pub enum Plan {
         /// The format of the explanation.
         format: Format,
     },
-    /// Show what the history in a file records, without replay.
+    /// Show what histories record, without replay.
     View {
-        /// The path of the file.
+        /// The first path.
         file: Text,
-        /// Which of its tasks are shown.
-        selection: Selection,
+        /// The other paths, in their order.
+        more: Vec<Text>,
+        /// Which tasks are shown; `None` if none are selected, as where there are other paths.
+        selection: Option<Selection>,
         /// The format of the report.
         format: Format,
     },
@@ -97,12 +99,16 @@ pub enum Plan {
         /// The path of the file.
         file: Text,
     },
-    /// Try the table in a file on a scenario.
+    /// Try tables in files on scenarios.
     Try {
-        /// The path of the file.
+        /// The first path.
         file: Text,
-        /// The path of the scenario. `None` for the file beside that of the table.
+        /// The other paths, in their order; none if there is a scenario.
+        more: Vec<Text>,
+        /// The scenario. `None` for the one in the file beside that of each table.
         scenario: Option<Text>,
+        /// The format of the report.
+        format: Format,
     },
     /// Serve the tasks of each history in a folder. There are at least as many slots as workers.
     Serve {
@@ -211,7 +217,7 @@ fn with_value_name<'a>(argument: Arg<'a>, name: &'a str) -> Arg<'a>
 
 /// Returns the argument that names one or more paths, with its help and the name that the help has
 /// for a path.
-pub(crate) fn paths_argument<'a>(alloc: Global, help: &'a str, value_name: &'a str) -> Arg<'a>
+fn paths_argument<'a>(alloc: Global, help: &'a str, value_name: &'a str) -> Arg<'a>
     ensures rule { rule_of result ≡ paths }
     ensures local { result.global ≡ false }
 {
@@ -292,9 +298,6 @@ pub(crate) fn subcommand<'a>(alloc: Global, name: &'a str, about: &'a str) -> Co
     Command::new(alloc, name).about(about)
 }
 
-/// The help of the argument that names the file of a history.
-pub(crate) const HISTORY: &str = "The history file that is read, or - for the standard input";
-
 /// Returns a subcommand with its help and a required file, whose help is the last one.
 pub(crate) fn file_subcommand<'a>(
     alloc: Global,
@@ -306,6 +309,21 @@ pub(crate) fn file_subcommand<'a>(
 {
     let file = needed_argument(alloc, "FILE", help);
     with_argument(Ok(subcommand(alloc, name, about)), file)
+}
+
+/// Returns a subcommand with its help and one or more required paths, with their help and the name
+/// that it has for a path.
+pub(crate) fn paths_subcommand<'a>(
+    alloc: Global,
+    name: &'a str,
+    about: &'a str,
+    help: &'a str,
+    value_name: &'a str,
+) -> Result<Command<'a>, AllocError>
+    ensures { IfOk result (StandsFor (with_rule (new_app name.entry.now) paths)) }
+{
+    let paths = paths_argument(alloc, help, value_name);
+    with_argument(Ok(subcommand(alloc, name, about)), paths)
 }
 
 /// Adds an argument to a subcommand. An error of either is returned.
@@ -616,8 +634,9 @@ fn plan_of(alloc: Global, name: &str, given: &ArgMatches<'_>) -> Result<Plan, Re
 /// - `BadLine`, with what is wrong with the line, as it is shown. It is returned only if `clap`
 ///   finds a mistake, if the line names no subcommand, if it lacks a path or a name, if a number is
 ///   malformed or not within its limits, if there are too many workers together, if the name of a
-///   Task Queue is empty, if tasks are selected twice, or if a page is asked for together with
-///   another format, selected tasks or more files.
+///   Task Queue is empty, if tasks are selected twice, if a page is asked for together with another
+///   format, selected tasks or more files, or if tasks are selected, a replay explained or a
+///   scenario given with more files than one.
 /// - `FewSlots`, only if the line gives numbers within their limits, with fewer slots than workers.
 /// - `OutOfMemory`, if there is no memory to read the line.
 pub fn parse<'a>(

@@ -1,16 +1,16 @@
 //! The subcommand `explain`: its arguments, and its plan.
 
-ghost use Rattle.std.specs.Prelude.{◌≡◌, ◌≢◌, ◌⊎◌, ◌≤◌, ◌<◌, ◌^◌, false, None, true, codes, Err, IfOk, IfErr, IfSome};
+ghost use Rattle.std.specs.Prelude.{◌≡◌, ◌≢◌, ◌⊎◌, ◌≤◌, ◌<◌, ◌^◌, [], false, None, true, codes, Err, IfOk, IfErr, IfSome};
 ghost use Rattle.clap.specs.Words.{App, found_of, rows_of, rule_of};
 ghost use Rattle.wh_command_line.specs.Explanations.{GivesExplanation, GivesSelection, LacksExplanation};
-ghost use Rattle.wh_command_line.specs.Explanations.{LacksSelection, Selects, otherwise_all, selected};
+ghost use Rattle.wh_command_line.specs.Explanations.{LacksSelection, MaySelect, Selects, selected};
 ghost use Rattle.wh_command_line.specs.Lines.{StandsFor, explain, with_selections};
 ghost use Rattle.wh_command_line.specs.Options.{IsWithinLimits, option};
 ghost use Rattle.wh_command_line.specs.Refusals.{IfBad};
 
 use crate::command_line::{
-    HISTORY, Plan, Refusal, bad_line, file_subcommand, flag_argument, flag_given, format_given,
-    option_argument, text_given, with_argument,
+    Plan, Refusal, bad_line, flag_argument, flag_given, format_given, option_argument, paths_given,
+    paths_subcommand, with_argument,
 };
 use crate::options::NumberOption;
 use clap::{Arg, ArgMatches, Command};
@@ -64,15 +64,21 @@ fn with_selections<'a>(
     with_argument(command, selection_argument(alloc, &LAST))
 }
 
+/// The help of the files that are explained.
+const HISTORIES: &str = "\
+The history file that is read, or - for the standard input; with --recorded also more files, and \
+folders";
+
 /// Returns the subcommand `explain`.
 pub(crate) fn explain<'a>(alloc: Global) -> Result<Command<'a>, AllocError>
     ensures { IfOk result (StandsFor explain) }
 {
-    let command = file_subcommand(
+    let command = paths_subcommand(
         alloc,
         "explain",
         "Replays a history, and prints what the workflow was told and gave, task by task",
-        HISTORY,
+        HISTORIES,
+        "FILE",
     );
     let json = flag_argument(alloc, "json", "Prints the explanation as JSON");
     let command = with_argument(command, json);
@@ -134,39 +140,85 @@ fn selection_given(alloc: Global, given: &ArgMatches<'_>) -> Result<Option<Selec
     }
 }
 
-/// Returns the plan to write a page, which allows neither another format nor a selection of tasks.
+/// Returns the plan to write a page, which takes one file, and allows neither another format nor a
+/// selection of tasks.
 fn page_plan(
     alloc: Global,
     file: Text,
+    more: &[Text],
     only_recorded: bool,
     format: Format,
     selection: Option<Selection>,
 ) -> Result<Plan, Refusal>
     ensures page { IfOk result (λ plan. plan ≡ Plan.Page file only_recorded) }
+    ensures alone { IfOk result (λ _. more.now ≡ []) }
     ensures text { IfOk result (λ _. format ≡ Format.Text) }
     ensures all { IfOk result (λ _. selection ≡ None) }
     ensures slots { result ≢ Err Refusal.FewSlots }
-    ensures bad { IfErr result (IfBad ((format ≡ Format.Json) ⊎ (selection ≢ None))) }
+    ensures bad { IfErr result (IfBad ((format ≡ Format.Json) ⊎ ((selection ≢ None) ⊎ (more.now ≢ [])))) }
 {
-    match (format, selection) {
-        (Format::Text, None) => Ok(Plan::Page {
+    match (format, selection, more) {
+        (Format::Text, None, []) => Ok(Plan::Page {
             file,
             only_recorded,
         }),
         _ => Err(bad_line(String::from_str(
             alloc,
-            "error: --html can't be given with --json, --all, --around or --last\n",
+            "error: --html takes one file, and can't be given with --json, --all, --around or --last\n",
         ))),
     }
 }
 
-/// Returns the selection, or all tasks if there is none.
-fn otherwise_all(selection: Option<Selection>) -> Selection
-    ensures { result ≡ otherwise_all selection }
+/// Returns the plan to show what histories record. A selection of tasks takes one file.
+fn view_plan(
+    alloc: Global,
+    file: Text,
+    more: Vec<Text>,
+    selection: Option<Selection>,
+    format: Format,
+) -> Result<Plan, Refusal>
+    ensures view { IfOk result (λ plan. plan ≡ Plan.View file more selection format) }
+    ensures alone { IfOk result (λ _. MaySelect more.items selection) }
+    ensures slots { result ≢ Err Refusal.FewSlots }
+    ensures bad { IfErr result (IfBad ((more.items ≢ []) × (selection ≢ None))) }
 {
-    match selection {
-        Some(selection) => selection,
-        None => Selection::All,
+    if !more.is_empty() && selection.is_some() {
+        return Err(bad_line(String::from_str(
+            alloc,
+            "error: --all, --around and --last take one file\n",
+        )));
+    }
+    Ok(Plan::View {
+        file,
+        more,
+        selection,
+        format,
+    })
+}
+
+/// Returns the plan to explain the replay of a history, which takes one file.
+fn replay_plan(
+    alloc: Global,
+    file: Text,
+    more: &[Text],
+    selection: Option<Selection>,
+    format: Format,
+) -> Result<Plan, Refusal>
+    ensures explain { IfOk result (λ plan. plan ≡ Plan.Explain file selection format) }
+    ensures alone { IfOk result (λ _. more.now ≡ []) }
+    ensures slots { result ≢ Err Refusal.FewSlots }
+    ensures bad { IfErr result (IfBad (more.now ≢ [])) }
+{
+    match more {
+        [] => Ok(Plan::Explain {
+            file,
+            selection,
+            format,
+        }),
+        _ => Err(bad_line(String::from_str(
+            alloc,
+            "error: explain takes one file, unless --recorded is given\n",
+        ))),
     }
 }
 
@@ -177,23 +229,15 @@ pub(crate) fn explanation_given(alloc: Global, given: &ArgMatches<'_>) -> Result
     ensures slots { result ≢ Err Refusal.FewSlots }
     ensures bad { IfErr result (IfBad (LacksExplanation (rows_of (found_of given.now)))) }
 {
-    let file = text_given(alloc, given, "FILE")?;
+    let (file, more) = paths_given(alloc, given)?;
     let selection = selection_given(alloc, given)?;
     let format = format_given(given);
     let recorded = flag_given(given, "recorded");
     if flag_given(given, "html") {
-        return page_plan(alloc, file, recorded, format, selection);
+        return page_plan(alloc, file, more.as_slice(), recorded, format, selection);
     }
     if recorded {
-        return Ok(Plan::View {
-            file,
-            selection: otherwise_all(selection),
-            format,
-        });
+        return view_plan(alloc, file, more, selection, format);
     }
-    Ok(Plan::Explain {
-        file,
-        selection,
-        format,
-    })
+    replay_plan(alloc, file, more.as_slice(), selection, format)
 }

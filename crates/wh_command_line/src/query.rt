@@ -8,12 +8,15 @@ ghost use Rattle.wh_command_line.specs.Queries.{GivesInput, GivesQuery, LacksQue
 ghost use Rattle.wh_command_line.specs.Refusals.{IfBad};
 
 use crate::command_line::{
-    HISTORY, Plan, Refusal, file_subcommand, flag_argument, format_given, needed_argument,
-    text_copies, text_given, with_argument,
+    Plan, Refusal, file_subcommand, flag_argument, format_given, needed_argument, text_copies,
+    text_given, with_argument,
 };
 use clap::{Arg, ArgAction, ArgMatches, Command};
 use std::alloc::{AllocError, Global};
 use wh_events::Text;
+
+/// The help of the argument that names the file of a history.
+const HISTORY: &str = "The history file that is read, or - for the standard input";
 
 /// Returns the positional argument for the arguments of a query, of which there may be any number.
 fn input_argument<'a>(alloc: Global) -> Arg<'a>

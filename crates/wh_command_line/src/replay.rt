@@ -6,8 +6,8 @@ ghost use Rattle.wh_command_line.specs.Lines.{StandsFor};
 ghost use Rattle.wh_command_line.specs.Replays.{GivesReplay, replay};
 
 use crate::command_line::{
-    flag_argument, flag_given, format_given, paths_argument, progress_argument,
-    require_files_argument, subcommand, with_argument,
+    flag_argument, flag_given, format_given, paths_subcommand, progress_argument,
+    require_files_argument, with_argument,
 };
 use clap::{ArgMatches, Command};
 use std::alloc::{AllocError, Global};
@@ -17,17 +17,13 @@ use wh_console::ReplayOptions;
 pub(crate) fn replay<'a>(alloc: Global) -> Result<Command<'a>, AllocError>
     ensures { IfOk result (StandsFor replay) }
 {
-    let command = subcommand(
+    let command = paths_subcommand(
         alloc,
         "replay",
         "Replays each history of folders and files, and prints a line for each",
-    );
-    let paths = paths_argument(
-        alloc,
         "A folder whose .json files are read, a file, or - for the standard input",
         "PATH",
     );
-    let command = with_argument(Ok(command), paths);
     let json = flag_argument(alloc, "json", "Prints the report as JSON");
     let command = with_argument(command, json);
     let command = with_argument(command, require_files_argument(alloc));

@@ -1,12 +1,12 @@
 -- What was done with the file at a path, and with inputs that were listed.
-use Rattle.std.proofs.Common.{◌≡◌, ℕ, List, inr, subst, sym}
+use Rattle.std.proofs.Common.{◌≡◌, ℕ, List, ◌∷◌, inr, subst, sym}
 use Rattle.std.specs.Prelude.{Bool, Result, Ok, Err, IfErr, IfOk}
 use Rattle.std.specs.Result.{IsErrAnd}
 use Rattle.wh_console.specs.Consoles.{ConsoleView}
 use Rattle.wh_diagnostics.proofs.ReadFailures.{input_fails_to_read}
 use Rattle.wh_diagnostics.specs.Failures.{input_failure, IsReadFailure}
 use Rattle.wh_diagnostics.specs.Files.{HasCarriedOut, IsFileAt, IsInputAt, IsNotCarriedOut, IsUnreadFile}
-use Rattle.wh_diagnostics.specs.Listings.{AfterListing}
+use Rattle.wh_diagnostics.specs.Listings.{AfterListing, AreListed, AtPaths, FailsAtPaths, is_by_path}
 use Rattle.wh_diagnostics.specs.Readings.{Gives, IsReadAs}
 use Rattle.wh_diagnostics.specs.declared.failures.Failure.{Failure}
 use Rattle.wh_file_faults.specs.Faults.{File}
@@ -57,3 +57,19 @@ pub failed_listed : (Lists : List Input → Bool → (old new : ConsoleView) →
 failed_listed Lists Fails inputs left_out old between new (Ok status) listed why = tt
 failed_listed Lists Fails inputs left_out old between new (Err failure) listed why =
     record { inputs = inputs; left_out = left_out; between = between; listed = listed; done = why }
+
+-- this was done with what paths name
+pub done_at_paths : (Own : List Input → Bool → (old new : ConsoleView) → ℕ → Type 0)
+    (first : List ℕ) (more : List (List ℕ)) (inputs : List Input) (left_out : Bool) (old between new : ConsoleView) (answer : Result ℕ Failure)
+    → AreListed (is_by_path more) (first ∷ more) inputs left_out old between → IfOk answer (Own inputs left_out between new)
+    → IfOk answer (AtPaths Own first more old new)
+done_at_paths Own first more = done_listed (AreListed (is_by_path more) (first ∷ more)) Own
+
+-- or this is what came of it
+pub failed_at_paths : (Fails : List Input → (old new : ConsoleView) → Failure → Type 0)
+    (first : List ℕ) (more : List (List ℕ)) (inputs : List Input) (left_out : Bool) (old between new : ConsoleView) (answer : Result ℕ Failure)
+    → AreListed (is_by_path more) (first ∷ more) inputs left_out old between → IfErr answer (Fails inputs between new)
+    → IfErr answer (FailsAtPaths Fails first more old new)
+failed_at_paths Fails first more inputs left_out old between new (Ok status) listed why = tt
+failed_at_paths Fails first more inputs left_out old between new (Err failure) listed why =
+    inr (record { inputs = inputs; left_out = left_out; between = between; listed = listed; done = why })

@@ -11,3 +11,4 @@ pub mod Telling
 pub mod Answering
 pub mod Reporting
 pub mod Unreported
+pub mod Walked

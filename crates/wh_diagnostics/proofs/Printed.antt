@@ -38,18 +38,31 @@ output_failed old first new (Err failure) quiet more failed = record {
   unwritten = λ other. absurd (other failed);
 }
 
--- there was nothing to write, or it can't be written
+-- there was nothing to write, or it can't be written or put out
+pub answer_refused : (old first new : ConsoleView) (answer : Result ℕ CommandFault) (result : Result ℕ Failure)
+    → IsQuiet old first → (answer ≡ Err faults.OutOfMemory → first.output ≡ old.output)
+    → IsQuiet first new → Keeps first.output new.output
+    → IfErr result (λ failure. failure ≡ unflushed answer)
+    → IfErr result (IsRefused old new)
+answer_refused old first new answer (Ok status) quiet same more kept failed = tt
+answer_refused old first new (Ok own) (Err failure) quiet same more kept failed = record {
+  quiet = quiet_twice old first new quiet more;
+  unwritten = λ other. absurd (other failed);
+}
+answer_refused old first new (Err faults.Output) (Err failure) quiet same more kept failed = record {
+  quiet = quiet_twice old first new quiet more;
+  unwritten = λ other. absurd (other failed);
+}
+answer_refused old first new (Err faults.OutOfMemory) (Err failure) quiet same more kept failed = record {
+  quiet = quiet_twice old first new quiet more;
+  unwritten = λ other. subst (λ o. Keeps o new.output) (same refl) kept;
+}
+
+-- so it is with a fault
 pub fault_flushed : (old first new : ConsoleView) (fault : CommandFault) (result : Result ℕ Failure)
     → IsQuiet old first → (fault ≡ faults.OutOfMemory → first.output ≡ old.output)
     → IsQuiet first new → Keeps first.output new.output
     → IfErr result (λ failure. failure ≡ unflushed (Err fault))
     → IfErr result (IsRefused old new)
-fault_flushed old first new fault (Ok status) quiet same more kept failed = tt
-fault_flushed old first new faults.Output (Err failure) quiet same more kept failed = record {
-  quiet = quiet_twice old first new quiet more;
-  unwritten = λ other. absurd (other failed);
-}
-fault_flushed old first new faults.OutOfMemory (Err failure) quiet same more kept failed = record {
-  quiet = quiet_twice old first new quiet more;
-  unwritten = λ other. subst (λ o. Keeps o new.output) (same refl) kept;
-}
+fault_flushed old first new fault result quiet same more kept failed =
+    answer_refused old first new (Err fault) result quiet (λ is. same (let own : fault ≡ faults.OutOfMemory = cc in own)) more kept failed

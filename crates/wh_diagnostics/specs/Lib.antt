@@ -5,6 +5,7 @@ pub mod Printing
 pub mod KnownTypes
 pub mod Listings
 pub mod Readings
+pub mod Walks
 pub mod Batches
 pub mod Laws
 pub mod ProgressLines

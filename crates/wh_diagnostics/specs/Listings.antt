@@ -1,5 +1,5 @@
 -- What paths name, and what is reported of them.
-use Rattle.std.specs.Prelude.{◌≡◌, ◌==◌, ◌||◌, ◌&&◌, ℕ, List, [], ◌∷◌, ◌++◌, length, not, All, Bool, false, None, String, codes, if◌then◌else◌}
+use Rattle.std.specs.Prelude.{◌≡◌, ◌==◌, ◌⊎◌, ◌||◌, ◌&&◌, ℕ, List, [], ◌∷◌, ◌++◌, length, not, All, Bool, false, None, String, codes, if◌then◌else◌}
 use Rattle.std.specs.declared.alloc.Global.{Global}
 use Rattle.wh_console.specs.Inputs.{IsCalled, IsOf}
 use Rattle.wh_console.specs.Names.{IsBadName}
@@ -81,3 +81,15 @@ pub record AfterListing {A : Type 0}
   pub between : ConsoleView
   pub listed : Lists inputs left_out old between
   pub done : Own inputs left_out between new own
+
+-- what paths name was listed, and then this came of it
+abbrev pub AtPaths : {A : Type 0} → (Own : List Input → (left_out : Bool) → (old new : ConsoleView) → A → Type 0)
+    → (first : List ℕ) → (more : List (List ℕ)) → (old new : ConsoleView) → A → Type 0
+AtPaths Own first more = AfterListing (AreListed (is_by_path more) (first ∷ more)) Own
+
+-- paths can't be listed, or what they name was, and then this came of it
+abbrev pub FailsAtPaths : (Fails : List Input → (old new : ConsoleView) → Failure → Type 0)
+    → (first : List ℕ) → (more : List (List ℕ)) → (old new : ConsoleView) → Failure → Type 0
+FailsAtPaths Fails first more old new failure =
+    AreUnlisted (is_by_path more) (first ∷ more) old new failure
+    ⊎ AtPaths (λ inputs left_out. Fails inputs) first more old new failure

@@ -1,6 +1,6 @@
-//! What commands read and report beside their output: the inputs that paths name, progress, faults
-//! and the types that are registered, on the standard error, and why a command ends without a full
-//! report.
+//! What commands read and report beside their output: the inputs that paths name, one after the
+//! other, progress, faults and the types that are registered, on the standard error, and why a command
+//! ends without a full report.
 //!
 //! And what all programs share: the words of the command line, what the program is called, its output,
 //! how it ends without a full report, and what it says of a command that it lacks.
@@ -20,6 +20,7 @@ mod printing;
 mod progress;
 mod progress_modes;
 mod readings;
+mod walks;
 
 pub use batches::{batch_size, reported_batches};
 pub use commands::lack;
@@ -34,3 +35,4 @@ pub use printing::{flush_answer, print, status_with};
 pub use progress::{Progress, ProgressEnd, ProgressLine};
 pub use progress_modes::{ProgressMode, mode_by, progress_mode};
 pub use readings::{InputReader, file_from};
+pub use walks::{Visitor, walk, walk_paths};

@@ -1,3 +1,5 @@
 pub mod Printable
-pub mod Digits
+pub mod Counted
+pub mod Highest
 pub mod Written
+mod Adding

@@ -1,6 +1,5 @@
 -- Which tasks are alike except for numbers and times.
-use Rattle.std.specs.Prelude.{ℕ, ◌&&◌, List, [], ◌∷◌, Bool, true, false, not, nat_le, bytes_eq, Option, Some, None}
-use Rattle.std.specs.List.{filter}
+use Rattle.std.specs.Prelude.{ℕ, ◌&&◌, List, Bool, true, false, bytes_eq, Option, Some, None}
 use Rattle.std.specs.Cmp.Lexicographic.{pointwise}
 use Rattle.wh_events.specs.Phrases.{Phrase}
 use Rattle.wh_workflow.specs.declared.command.Command.{Command}
@@ -14,18 +13,7 @@ use Rattle.wh_explained_tasks.specs.declared.RecordedEvent.{RecordedEvent}
 use Rattle.wh_explained_tasks.specs.declared.Pairing.{Pairing}
 use Rattle.wh_explained_tasks.specs.declared.Pairing.TheVariants as pairs
 use Rattle.wh_phrases.specs.Phrases.{event_phrase}
-
--- a byte is no decimal digit
-abbrev pub is_plain : ℕ → Bool
-is_plain c = not (nat_le 48 c && nat_le c 57)
-
--- a text without its decimal digits
-abbrev pub plain : List ℕ → List ℕ
-plain text = filter is_plain text
-
--- two texts are the same except for digits
-unfoldable pub alike_texts : List ℕ → List ℕ → Bool
-alike_texts one other = bytes_eq (plain one) (plain other)
+use Rattle.wh_view_report.specs.Digits.{alike_texts}
 
 -- two optional words are both absent, or the same except for digits
 abbrev pub alike_words : Option (List ℕ) → Option (List ℕ) → Bool

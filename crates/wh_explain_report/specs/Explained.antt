@@ -11,8 +11,8 @@ use Rattle.wh_view.specs.Views.{IsViewIn}
 use Rattle.wh_view.specs.declared.view.View.{View}
 use Rattle.wh_console.specs.declared.selection.Selection.{Selection}
 use Rattle.wh_console.specs.declared.selection.Selection.TheVariants.{All}
-use Rattle.wh_view_report.specs.Json.{view_objects}
-use Rattle.wh_view_report.specs.Texts.{view_text}
+use Rattle.wh_view_json.specs.Objects.{view_objects}
+use Rattle.wh_view_report.specs.Views.{text_of}
 use Rattle.wh_explain.specs.declared.explanation.Explanation.{Explanation}
 use Rattle.wh_explained_tasks.specs.declared.Pairing.{Pairing}
 use Rattle.wh_console.specs.declared.format.Format.{Format}
@@ -28,15 +28,16 @@ abbrev pub line_as : Format → Line → Option Pairing → List ℕ
 line_as Json line difference = last_object line difference
 line_as Text line difference = line_text line
 
--- the view of the tasks that are selected, as text or as JSON
-abbrev pub view_as : Selection → Format → View → List ℕ
-view_as selection Json view = view_objects view selection
-view_as selection Text view = view_text view selection
+-- the view of the tasks that are selected, as text or as JSON; if none are, of all tasks, in the text of which those that
+-- repeat others are folded
+abbrev pub view_as : Option Selection → Format → View → List ℕ
+view_as selection Json view = view_objects view (unwrap_or selection All)
+view_as selection Text view = text_of view selection
 
--- of all of them if none are selected
+-- the view, if there is one
 abbrev pub viewed_as : Option Selection → Format → Option View → List ℕ
 viewed_as selection format None = []
-viewed_as selection format (Some view) = view_as (unwrap_or selection All) format view
+viewed_as selection format (Some view) = view_as selection format view
 
 -- the explanation, the line of the file, and the view after them, if there is one
 abbrev pub explained_as : Option Selection → Format → Explanation → Line → Option View → List ℕ

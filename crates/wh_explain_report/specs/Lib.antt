@@ -6,4 +6,9 @@ pub mod TaskTexts
 pub mod Explanations
 pub mod Json
 pub mod Explained
+pub mod RunFacts
 pub mod Laws
+pub mod RunLines
+pub mod RunObjects
+pub mod RunCounts
+pub mod Overviews

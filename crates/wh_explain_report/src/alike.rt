@@ -1,6 +1,6 @@
 //! Finds tasks that are alike except for numbers and times.
 
-ghost use Rattle.std.specs.Prelude.{◌≡◌, ◌≤◌, ◌<◌, drop, length, get_or, option_map, true};
+ghost use Rattle.std.specs.Prelude.{◌≡◌, option_map};
 ghost use Rattle.std.specs.Cmp.Lexicographic.{pointwise};
 ghost use Rattle.wh_events.specs.Phrases.{phrase_seen};
 ghost use Rattle.wh_explain_report.specs.Alike as alike;
@@ -8,47 +8,8 @@ ghost use Rattle.wh_explain_report.specs.Alike as alike;
 use wh_events::Phrase;
 use wh_explain::{Ending, ExplainedTask, Pairing, RecordedEvent, Step};
 use wh_phrases::event_phrase;
+use wh_view_report::alike_texts;
 use wh_workflow::Command;
-
-/// Returns whether a byte is no decimal digit.
-fn is_plain(byte: u8) -> bool
-    ensures { result ≡ alike.is_plain byte }
-{
-    !(48 <= byte && byte <= 57)
-}
-
-/// Returns the first position at or after `from` without a decimal digit; the end of the text if
-/// only digits follow.
-fn next_plain(text: &[u8], from: usize) -> usize
-    requires { from ≤ length text.now }
-    ensures within { result ≤ length text.now }
-    ensures same { alike.plain (drop result text.now) ≡ alike.plain (drop from text.now) }
-    ensures stops { result < length text.now → alike.is_plain (get_or text.now result 0) ≡ true }
-{
-    let mut at = from;
-    while at < text.len() && !is_plain(text[at]) {
-        at += 1;
-    }
-    at
-}
-
-/// Returns whether two texts are the same except for decimal digits.
-fn alike_bytes(one: &[u8], other: &[u8]) -> bool
-    ensures { result ≡ alike.alike_texts one.now other.now }
-{
-    let mut at = 0;
-    for byte in one {
-        if !is_plain(*byte) {
-            continue;
-        }
-        at = next_plain(other, at);
-        if at == other.len() || other[at] != *byte {
-            return false;
-        }
-        at += 1;
-    }
-    next_plain(other, at) == other.len()
-}
 
 /// Returns whether two optional words are both absent, or the same except for decimal digits.
 fn alike_words(one: Option<&str>, other: Option<&str>) -> bool
@@ -56,7 +17,7 @@ fn alike_words(one: Option<&str>, other: Option<&str>) -> bool
 {
     match (one, other) {
         (None, None) => true,
-        (Some(one), Some(other)) => alike_bytes(one.as_bytes(), other.as_bytes()),
+        (Some(one), Some(other)) => alike_texts(one, other),
         _ => false,
     }
 }

@@ -15,7 +15,8 @@ use wh_explain::{Explanation, Pairing, explain};
 use wh_file_faults::CommandFault;
 use wh_tester::{Line, is_good, write_line};
 use wh_view::{View, view_of};
-use wh_view_report::{Selection, write_json_view, write_view};
+use wh_view_json::write_json_view;
+use wh_view_report::{Selection, write_view};
 use wh_workflow::Workflow;
 
 /// Writes an explanation. After an error some of it may have been written.
@@ -51,10 +52,12 @@ fn write_line_as<O: Write>(
     }
 }
 
-/// Writes a view as text or as lines of JSON. After an error some of it may have been written.
+/// Writes a view as text or as lines of JSON: the tasks that are selected, or else all tasks, in the
+/// text of which those that repeat others are folded. After an error some of it may have been
+/// written.
 pub fn write_view_as<O: Write>(
     view: &View,
-    selection: Selection,
+    selection: Option<Selection>,
     format: Format,
     writer: &mut O,
 ) -> io::Result<()>
@@ -62,7 +65,7 @@ pub fn write_view_as<O: Write>(
         (Appends (O.contents writer.old) (O.contents writer.new) (view_as selection format view.now)) }
 {
     match format {
-        Format::Json => write_json_view(view, selection, writer),
+        Format::Json => write_json_view(view, selection.unwrap_or(Selection::All), writer),
         Format::Text => write_view(view, selection, writer),
     }
 }
@@ -96,7 +99,7 @@ fn write_viewed<O: Write>(
         OnOk result (Appends (O.contents writer.old) (O.contents writer.new) text) }
 {
     match view {
-        Some(view) => write_view_as(view, selection.unwrap_or(Selection::All), format, writer),
+        Some(view) => write_view_as(view, selection, format, writer),
         None => Ok(()),
     }
 }
@@ -154,8 +157,8 @@ fn write_explained<O: Write>(
 /// Writes the explanation of a history file, of the tasks that are selected, or if nothing is of
 /// those that matter, as `write_explanation` or `write_json_explanation` does, and then the line of
 /// the file in the report of replay, as JSON with the members of the difference, if there is one.
-/// If its workflow type is not registered, what is recorded in it follows, as `wh_view_report`
-/// writes it, of the tasks that are selected, or of all. The answer is that line. The history is
+/// If its workflow type is not registered, what is recorded in it follows, as `write_view_as` writes
+/// it. The answer is that line. The history is
 /// replayed once. Nothing is written if the answer is `OutOfMemory`.
 pub fn explain_file<W: Workflow, O: Write>(
     alloc: Global,

@@ -21,9 +21,9 @@ use Rattle.wh_file_faults.specs.declared.detail.FaultDetail.{FaultDetail}
 use Rattle.wh_file_page.specs.Pages.{IsPaged}
 use Rattle.wh_workflow.specs.Queries.{Queries}
 use Rattle.wh_workflow.specs.declared.queryable.Query.{Query}
-use Rattle.wh_query_report.specs.Queried.{IsQueried, status_of as query_status}
-use Rattle.wh_query_report.specs.Texts.{queried_as}
-use Rattle.wh_query_report.specs.declared.queried.Queried.{Queried}
+use Rattle.wh_file_commands.specs.Queried.{IsQueried, status_of as query_status}
+use Rattle.wh_file_commands.specs.QueryTexts.{queried_as}
+use Rattle.wh_file_commands.specs.declared.queried.Queried.{Queried}
 use Rattle.wh_explain_report.specs.Explained.{IsExplained, status_of, view_as}
 use Rattle.wh_tester.specs.declared.line.Line.{Line}
 use Rattle.wh_view.specs.Views.{IsViewIn}
@@ -90,7 +90,7 @@ query_ended program queries types file query format old first between ended new 
     }
 
 -- the view of a file was printed
-pub view_printed : (selection : Selection) (format : Format) (file : File) (seen : List ℕ) (view : View) (old new : ConsoleView) (answer : Result ℕ Failure)
+pub view_printed : (selection : Option Selection) (format : Format) (file : File) (seen : List ℕ) (view : View) (old new : ConsoleView) (answer : Result ℕ Failure)
     → seen ≡ file.1.items → IsViewIn seen view → IfOk answer (HasPrinted (view_as selection format view) 0 old new)
     → IfOk answer (HasViewed selection format file old new)
 view_printed selection format file seen view old new (Ok status) same_seen viewed printed =

@@ -1,6 +1,12 @@
+pub mod Checked
 pub mod Explanations
+pub mod Overviews
 pub mod Pages
 pub mod Private
+pub mod Queried
 pub mod Queries
+pub mod QueryInputs
+pub mod QueryTexts
+pub mod Recorded
 pub mod Refusals
 pub mod Views

@@ -10,9 +10,9 @@ use Rattle.wh_diagnostics.specs.Readings.{Gives}
 use Rattle.wh_diagnostics.specs.declared.failures.Failure.{Failure}
 use Rattle.wh_diagnostics.specs.declared.failures.Failure.TheVariants.{BadInput, OutOfMemory}
 use Rattle.wh_file_faults.specs.Faults.{File}
-use Rattle.wh_query_report.specs.Queried.{IsQueried, status_of as query_status}
-use Rattle.wh_query_report.specs.Texts.{queried_as}
-use Rattle.wh_query_report.specs.declared.queried.Queried.{Queried}
+use Rattle.wh_file_commands.specs.Queried.{IsQueried, status_of as query_status}
+use Rattle.wh_file_commands.specs.QueryTexts.{queried_as}
+use Rattle.wh_file_commands.specs.declared.queried.Queried.{Queried}
 use Rattle.wh_workflow.specs.Queries.{Queries}
 use Rattle.wh_workflow.specs.declared.queryable.Query.{Query as Question}
 use Rattle.wh_workflow.specs.Law.{Program}

@@ -6,10 +6,13 @@ ghost use Rattle.wh_diagnostics.specs.Failures.{IsWriteFailure};
 ghost use Rattle.wh_diagnostics.specs.Files.{HasCarriedOut};
 ghost use Rattle.wh_diagnostics.specs.Printing.{IsRefused};
 ghost use Rattle.wh_file_commands.specs.Queries.{HasQueried, IsUnasked, IsUnqueried};
-ghost use Rattle.wh_query_report.specs.Inputs.{query_of};
-ghost use Rattle.wh_query_report.specs.Queried.{IsQueried};
-ghost use Rattle.wh_query_report.specs.Texts.{queried_as};
+ghost use Rattle.wh_file_commands.specs.QueryInputs.{query_of};
+ghost use Rattle.wh_file_commands.specs.Queried.{IsQueried};
+ghost use Rattle.wh_file_commands.specs.QueryTexts.{queried_as};
 
+use crate::queried::Queried;
+use crate::query_inputs::query_of;
+use crate::query_report::{query_command, status_of};
 use std::alloc::Global;
 use std::io;
 use std::io::Write;
@@ -17,7 +20,6 @@ use wh_console::{Console, Format, Outlet};
 use wh_diagnostics::{Failure, InputReader, KnownTypes, file_at, flush_answer, lacks_code};
 use wh_events::Text;
 use wh_file_faults::CommandFault;
-use wh_query_report::{Queried, query_command, query_of};
 use wh_workflow::{Query, Queryable};
 
 /// Queries a file, and writes what came of that.
@@ -55,7 +57,7 @@ fn query_file<W: Queryable, O: Write, E: Write>(
         Ok(queried) => queried,
         Err(fault) => return flush_answer(Err(fault), console),
     };
-    let status = match flush_answer(Ok(wh_query_report::status_of(&queried)), console) {
+    let status = match flush_answer(Ok(status_of(&queried)), console) {
         Ok(status) => status,
         Err(failure) => {
             drop(queried);

@@ -1,19 +1,20 @@
-//! The command `explain --recorded`.
+//! What `explain --recorded` shows of one history.
 
 ghost use Rattle.std.specs.Prelude.{◌≡◌, IfErr, IfOk, OnOk};
 ghost use Rattle.wh_console.specs.Consoles.{IsQuiet, Printed};
-ghost use Rattle.wh_diagnostics.specs.Files.{HasCarriedOut, IsNotCarriedOut};
 ghost use Rattle.wh_diagnostics.specs.Printing.{IsRefused};
 ghost use Rattle.wh_file_commands.specs.Private.Refusals.{IsUnviewed, IsUnviewedJson};
+ghost use Rattle.wh_diagnostics.specs.Readings.{IsReadAs};
+ghost use Rattle.wh_file_commands.specs.Recorded.{HasNotShownInput};
 ghost use Rattle.wh_file_commands.specs.Refusals.{IsUnshown};
 ghost use Rattle.wh_file_commands.specs.Views.{HasViewed};
+ghost use Rattle.wh_file_faults.specs.Faults.{File};
 ghost use Rattle.wh_explain_report.specs.Explained.{view_as};
 
 use std::alloc::Global;
-use std::io;
 use std::io::Write;
-use wh_console::{Console, Format};
-use wh_diagnostics::{Failure, InputReader, file_at, flush_answer};
+use wh_console::{Console, Format, Input};
+use wh_diagnostics::{Failure, InputReader, file_from, flush_answer};
 use wh_events::{OutOfMemory, Text};
 use wh_explain_report::write_view_as;
 use wh_file_faults::{CommandFault, json_detail};
@@ -49,7 +50,7 @@ pub(crate) fn view_failure(alloc: Global, file: Text, fault: ReadFault, bytes: &
 /// Writes a view.
 fn print_view<O: Write, E: Write>(
     view: &View,
-    selection: Selection,
+    selection: Option<Selection>,
     format: Format,
     console: &mut Console<'_, O, E>,
 ) -> Result<u8, CommandFault>
@@ -69,7 +70,7 @@ fn view<O: Write, E: Write>(
     alloc: Global,
     name: String,
     bytes: Vec<u8>,
-    selection: Selection,
+    selection: Option<Selection>,
     format: Format,
     console: &mut Console<'_, O, E>,
 ) -> Result<u8, Failure>
@@ -86,25 +87,24 @@ fn view<O: Write, E: Write>(
     flush_answer(answer, console)
 }
 
-/// Shows what is recorded in the history at a path: the tasks that are selected, with nothing
-/// replayed. The status is 0.
+/// Shows what is recorded in the history that an input holds, with nothing replayed: the tasks that
+/// are selected, or else all, in text with those that repeat others folded. The status is 0.
 ///
 /// `Unreadable` if it can't be read. `NotJson` if it is not JSON, and `NotViewed` if it has no list
 /// of events for another reason. `Output` if it has one, and the text can't be written. Other than
 /// `OutOfMemory` there is no failure but these. After a failure nothing was reported, and nothing
 /// was written unless it is `Output`.
-pub fn view_path<R: InputReader + io::Input + AllocGlobal, O: Write, E: Write>(
+pub(crate) fn view_input<R: InputReader + AllocGlobal, O: Write, E: Write>(
     rt: &R,
-    path: Text,
-    selection: Selection,
+    input: Input,
+    selection: Option<Selection>,
     format: Format,
     console: &mut Console<'_, O, E>,
 ) -> Result<u8, Failure>
-    ensures viewed { IfOk result
-        (HasCarriedOut R.gives (HasViewed selection format) path console.old console.new) }
-    ensures refused { IfErr result (IsRefused console.old console.new) }
-    ensures why { IfErr result (IsNotCarriedOut R.gives IsUnshown path) }
+    ensures viewed { IfOk result (λ status. (file : File) × IsReadAs R.gives input file
+        × HasViewed selection format file console.old console.new status) }
+    ensures stopped { IfErr result (HasNotShownInput R.gives input console.old console.new) }
 {
-    let (name, bytes) = file_at(rt, path)?;
+    let (name, bytes) = file_from(rt, input)?;
     view(rt.alloc(), name, bytes, selection, format, console)
 }

@@ -5,7 +5,7 @@ use Rattle.wh_diagnostics.specs.Failures.{IsWriteFailure}
 use Rattle.wh_diagnostics.specs.Files.{HasCarriedOut}
 use Rattle.wh_file_commands.proofs.Unqueried.{asked_unqueried, unread_unqueried}
 use Rattle.wh_file_commands.specs.Queries.{HasQueried}
-use Rattle.wh_query_report.specs.Inputs.{query_of}
+use Rattle.wh_file_commands.specs.QueryInputs.{query_of}
 use Rattle.wh_file_commands.proofs.query.query_path.Goals as goal
 
 -- what is queried is the file at the path

@@ -1,4 +1,0 @@
-pub mod Checked
-pub mod Inputs
-pub mod Queried
-pub mod Texts
