@@ -24,7 +24,18 @@ use Rattle.wh_crew.specs.Serving.{AreServed, HasServed}
 use Rattle.wh_crew.specs.declared.serving.LiveEnd.{LiveEnd}
 
 comes_from_itself : (s : LiveView) → ComesFrom s s
-comes_from_itself s = record { role = refl; names = refl; more = []; answers = sym (append-nil s.answers); failures = omega arith }
+comes_from_itself s = record {
+  role = refl;
+  names = refl;
+  more = [];
+  answers = sym (append-nil s.answers);
+  failures = omega arith;
+  more_notes = [];
+  notes = sym (append-nil s.notes);
+  kinds = refl;
+  polled = omega arith;
+  noted = omega arith;
+}
 
 -- fresh sources were sent no answer
 none_sent : (names : WorkerNames) (roles : List TaskQueueKind) → sum_by (λ s. length s.answers) (map (λ role. fresh role names) roles) ≡ 0

@@ -1,5 +1,11 @@
 -- What the result of a heartbeat's call means for the activity.
-use Rattle.std.specs.Prelude.{◌≡◌, Bool, true, false, Result, Ok, Err}
+use Rattle.std.specs.Prelude.{◌≡◌, ℕ, List, Bool, true, false, Result, Ok, Err, IfOk, IfErr, codes}
+use Rattle.wh_client.specs.Calls.{Fails, Gives}
+use Rattle.wh_client.specs.Heartbeats.{IsHeartbeat}
+use Rattle.wh_client.specs.Refusals.{IsFaultBy}
+use Rattle.wh_commands.specs.declared.names.WorkerNames.{WorkerNames}
+use Rattle.wh_events.specs.declared.event.Payload.{Payload}
+use Rattle.wh_messages.specs.Heartbeats.{activity_heartbeat}
 use Rattle.wh_client.specs.declared.asking.AskFault.{AskFault}
 use Rattle.wh_client.specs.declared.asking.AskFault.TheVariants as asked
 use Rattle.wh_client.specs.declared.codes.StatusCode.TheVariants as status
@@ -21,6 +27,15 @@ means (Err _) = Ok Unheard
 abbrev pub Means : Result Bool AskFault → Result HeartbeatResponse OutOfMemory → Type 0
 Means heard (Ok response) = means heard ≡ Ok response
 Means heard (Err refused) = means heard ≡ Err asked.OutOfMemory
+
+-- this is the response to a heartbeat of the task of a token with these details: what its call came to decides
+pub record IsResponseTo (gives : Gives) (fails : Fails) (names : WorkerNames) (token : List ℕ) (details : List Payload)
+    (response : Result HeartbeatResponse OutOfMemory) : Type 0 where
+  pub heard : Result Bool AskFault
+  pub given : IfOk heard (IsHeartbeat gives names token details)
+  pub failed : IfErr heard
+      (IsFaultBy (fails (codes "RecordActivityTaskHeartbeat") (activity_heartbeat names token details)))
+  pub means : Means heard response
 
 -- what the cell notes of a heartbeat with this response
 abbrev pub noted : Result HeartbeatResponse OutOfMemory → HeartbeatResponse

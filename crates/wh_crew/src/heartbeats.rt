@@ -1,7 +1,7 @@
 //! Sends heartbeats over the calls of a bridge.
 
 ghost use Rattle.std.specs.Prelude.{◌≡◌, IfOk};
-ghost use Rattle.wh_crew.specs.HeartbeatResponses.{Means, noted};
+ghost use Rattle.wh_crew.specs.HeartbeatResponses.{IsResponseTo, Means, noted};
 
 use crate::bridge_connection::BridgeConnection;
 use crate::source_observer::NoSourceObserver;
@@ -62,7 +62,9 @@ pub(crate) fn beat<R: Wait, L: Connection>(
     cell: &ActivityCell,
     token: &Text,
     details: Items<Payload>,
-) -> Result<HeartbeatResponse, OutOfMemory> {
+) -> Result<HeartbeatResponse, OutOfMemory>
+    ensures { IsResponseTo L.gives L.fails names.now token.now details result }
+{
     let heard = record_heartbeat(connection, names, token, details.get());
     let response = response_of(heard);
     cell.hear(rt, token, details, heard_response(&response));

@@ -14,7 +14,7 @@ use Rattle.wh_client.specs.declared.codes.PollEnd.TheVariants.{Closed, Later, Ne
 use Rattle.wh_notes.specs.declared.results.PollResult.{PollResult}
 use Rattle.wh_notes.specs.declared.results.PollResult.TheVariants as results
 use Rattle.wh_live.specs.declared.tasks.OpenTask.{OpenTask}
-use Rattle.wh_live.specs.Private.Opening.{IsActivityFault, IsClosedBy, IsOpened, IsWorkflowFault}
+use Rattle.wh_live.specs.Private.Opening.{EndsIn, IsActivityFault, IsOpened, IsWorkflowFault}
 use Rattle.wh_notes.specs.Polls.{EndsPoll, IsOverIfEnded, MayEnd, Reports, end_of, ended_after, ended_by}
 use Rattle.wh_messages.specs.Requests.{poll_activity, poll_workflow}
 use Rattle.wh_tasks.specs.declared.source.Polled.{Polled}
@@ -70,13 +70,13 @@ over_if_ended fails (Ok poll) old new may is was = λ ended. was (sym is ∙ end
 over_if_ended fails (Err fault) old new may is was = ends_over fails (end_of fault) old new may is was
 
 closed_end : {A : Type 0} (came : AskFault → Type 0) (fault : AskFault) (end : PollEnd) (given : Result (Polled A) SourceFault)
-    → end_of fault ≡ end → came fault → HasItsStatus fault → EndsPoll end given → given ≡ Ok polled.Closed → IsClosedBy came
+    → end_of fault ≡ end → came fault → HasItsStatus fault → EndsPoll end given → given ≡ Ok polled.Closed → EndsIn Closed came
 closed_end came fault Closed given ends is has reports closed = record { fault = fault; is = is; status = has; ends = ends }
 closed_end came fault Later given ends is has reports closed = cc
 closed_end came fault Never given ends is has reports closed = absurd (true≢false (sym (subst IsErr closed reports)))
 
 closed_poll : {A : Type 0} (came : AskFault → Type 0) (taken : Result (PollResult A) AskFault) (given : Result (Polled A) SourceFault)
-    → IfErr taken came → IfErr taken HasItsStatus → Reports taken given → given ≡ Ok polled.Closed → IsClosedBy came
+    → IfErr taken came → IfErr taken HasItsStatus → Reports taken given → given ≡ Ok polled.Closed → EndsIn Closed came
 closed_poll came (Ok (results.Task task)) given is has reports closed = cc
 closed_poll came (Ok results.Empty) given is has reports closed = cc
 closed_poll came (Ok results.Settled) given is has reports closed = cc
@@ -95,6 +95,6 @@ opened_closed (Err fault) old result new is closed = let same = is.0 in cc
 pub closed_by : {A : Type 0} (came : AskFault → Type 0) (taken : Result (PollResult (OpenTask × A)) AskFault)
     (given : Result (Polled (OpenTask × A)) SourceFault) (old : Option OpenTask) (result : Result (Polled A) SourceFault)
     (new : Option OpenTask) → IfErr taken came → IfErr taken HasItsStatus → Reports taken given → IsOpened given old result new
-    → result ≡ Ok polled.Closed → IsClosedBy came
+    → result ≡ Ok polled.Closed → EndsIn Closed came
 closed_by came taken given old result new is has reports opened closed =
     closed_poll came taken given is has reports (opened_closed given old result new opened closed)

@@ -1,11 +1,12 @@
 -- What becomes of answers whose calls failed, fault by fault.
-use Rattle.std.proofs.Common.{◌≡◌, refl}
+use Rattle.std.proofs.Common.{◌≡◌, ap, refl}
+use Rattle.wh_client.specs.Codes.{is_taken, refused_answer}
 use Rattle.wh_client.specs.declared.asking.AskFault.TheVariants as asked
 use Rattle.wh_client.specs.declared.codes.Receipt.TheVariants.{Acknowledged, Cut}
 use Rattle.wh_client.specs.declared.codes.StatusCode.TheVariants as status
 use Rattle.wh_client.specs.declared.codes.Receipt.{Receipt}
 use Rattle.wh_client.specs.declared.codes.Receipt.TheVariants as receipt
-use Rattle.wh_live.specs.Answers.{CausesByFault, ReceiptsByFault}
+use Rattle.wh_live.specs.Answers.{CausesByFault, ReceiptsByFault, UnsentByFault}
 use Rattle.wh_live.specs.Private.Answering.{run_use}
 use Rattle.wh_tasks.specs.declared.source.RunUse.TheVariants.{Cache}
 use Rattle.wh_replay.specs.declared.fault.Fault.TheVariants.{NotATask, Place, Workflow, Mismatch}
@@ -29,6 +30,15 @@ receipts_by_fault asked.Unreadable = (λ e. cc, (λ e. cc, λ e. cc))
 receipts_by_fault asked.TooManyPages = (λ e. cc, (λ e. cc, λ e. cc))
 receipts_by_fault (asked.History fault) = (λ e. cc, (λ e. cc, λ e. cc))
 receipts_by_fault asked.OutOfMemory = (λ e. cc, (λ e. cc, λ e. cc))
+
+pub unsent_by_fault : UnsentByFault
+unsent_by_fault asked.Closed has = refl
+unsent_by_fault asked.Output has = refl
+unsent_by_fault (asked.Refused of code message) has = ap (λ s. is_taken (refused_answer s)) has
+unsent_by_fault asked.Unreadable has = refl
+unsent_by_fault asked.TooManyPages has = refl
+unsent_by_fault (asked.History fault) has = refl
+unsent_by_fault asked.OutOfMemory has = refl
 
 -- a run that is cached has an acknowledged answer
 pub cached_acknowledged : (of : Receipt) → run_use of ≡ Cache → of ≡ receipt.Acknowledged

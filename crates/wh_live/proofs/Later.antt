@@ -10,7 +10,7 @@ use Rattle.wh_notes.specs.declared.results.PollResult.{PollResult}
 use Rattle.wh_notes.specs.declared.results.PollResult.TheVariants as results
 use Rattle.wh_live.specs.declared.tasks.OpenTask.{OpenTask}
 use Rattle.wh_live.specs.Deliveries.{AreLater, FromQueue, HasKept, later_in}
-use Rattle.wh_live.specs.Private.Opening.{HasLater, IsOpened, KeepsLater, OnTask, later_events}
+use Rattle.wh_live.specs.Private.Opening.{HasLater, IsOpened, KeepsLater, LeavesOpen, OnTask, later_events}
 use Rattle.wh_commands.specs.declared.names.WorkerNames.{WorkerNames}
 use Rattle.wh_replay.specs.Runs.{follows}
 use Rattle.wh_tasks.specs.declared.source.Polled.{Polled}
@@ -55,6 +55,14 @@ module _ (gives : Gives) (names : WorkerNames) (queue : Option Bool) where
   opened_later (Ok polled.Nothing) old result new is later had = subst (HasLater gives names queue) (sym is.1) had
   opened_later (Ok polled.Closed) old result new is later had = subst (HasLater gives names queue) (sym is.1) had
   opened_later (Err fault) old result new is later had = subst (HasLater gives names queue) (sym is.1) had
+
+-- a poll that delivers no task leaves the one that is open
+pub leaves_open : {A : Type 0} (given : Result (Polled (OpenTask × A)) SourceFault) (old : Option OpenTask)
+    (result : Result (Polled A) SourceFault) (new : Option OpenTask) → IsOpened given old result new → LeavesOpen result old new
+leaves_open (Ok (polled.Task pair)) old result new is = subst (λ r. LeavesOpen r old new) (sym is.0) tt
+leaves_open (Ok polled.Nothing) old result new is = subst (λ r. LeavesOpen r old new) (sym is.0) is.1
+leaves_open (Ok polled.Closed) old result new is = subst (λ r. LeavesOpen r old new) (sym is.0) is.1
+leaves_open (Err fault) old result new is = subst (λ r. LeavesOpen r old new) (sym is.0) is.1
 
 -- what holds for the task that a poll returned holds for the one that is delivered
 pub is_of_poll : {A : Type 0} (p : A → Type 0) (taken : Result (PollResult A) AskFault) (given : Result (Polled A) SourceFault)

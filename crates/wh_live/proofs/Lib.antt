@@ -1,5 +1,6 @@
 pub mod Ending
 pub mod Faults
+pub mod Adding
 pub mod Keeping
 pub mod Later
 pub mod Receipts

@@ -1,6 +1,7 @@
 -- The cause with which a task is failed, and what becomes of an answer whose call failed.
-use Rattle.std.specs.Prelude.{◌≡◌, ◌≢◌, ◌↔◌}
-use Rattle.wh_client.specs.Codes.{refused_answer}
+use Rattle.std.specs.Prelude.{◌≡◌, ◌≢◌, ◌↔◌, false}
+use Rattle.wh_client.specs.Codes.{is_taken, refused_answer}
+use Rattle.wh_client.specs.Refusals.{HasNoMeaning}
 use Rattle.wh_client.specs.declared.asking.AskFault.{AskFault}
 use Rattle.wh_client.specs.declared.asking.AskFault.TheVariants as asked
 use Rattle.wh_client.specs.declared.codes.Receipt.{Receipt}
@@ -44,3 +45,8 @@ CausesByFault = (fault : Fault) → (cause_of fault ≡ Nondeterministic) ↔ Is
 abbrev pub ReceiptsByFault : Type 0
 ReceiptsByFault = (fault : AskFault) →
     (receipt_of fault ≢ Acknowledged) × ((receipt_of fault ≡ Cut) ↔ (fault ≡ asked.Closed))
+
+-- what becomes of an answer that is not sent, since it is not known what its run carries over, never counts as taken: the
+-- status of a page that was refused says nothing about the task
+abbrev pub UnsentByFault : Type 0
+UnsentByFault = (fault : AskFault) → HasNoMeaning fault → is_taken (receipt_of fault) ≡ false

@@ -1,17 +1,21 @@
--- Which tasks a live source delivers, and which histories it fetches.
-use Rattle.std.specs.Prelude.{◌≡◌, ◌⊎◌, ℕ, ◌≤◌, ◌+◌, ◌==◌, ◌++◌, Bool, List, [], take, drop, position, Option, Some, None, if◌then◌else◌}
+-- Which tasks a live source delivers, which histories it fetches, and what it notes.
+use Rattle.std.specs.Prelude.{◌≡◌, ◌⊎◌, ℕ, ◌≤◌, ◌+◌, ◌==◌, ◌++◌, Bool, not, List, [], length, take, drop, position, count_by, Option, Some, None, if◌then◌else◌}
 use Rattle.serde_json.specs.Data.{Data}
 use Rattle.wh_client.specs.Calls.{Gives}
 use Rattle.wh_client.specs.Histories.{HasAllMembers, IsWhole, ReadsEvents}
 use Rattle.wh_client.specs.Polls.{IsActivityPoll, IsWorkflowPoll}
 use Rattle.wh_client.specs.Roles.{polls_sticky}
+use Rattle.wh_client.specs.declared.notes.PollOutcome.{PollOutcome}
 use Rattle.wh_client.specs.declared.notes.SourceNote.{SourceNote}
 use Rattle.wh_client.specs.declared.options.TaskQueueKind.{TaskQueueKind}
 use Rattle.wh_client.specs.declared.options.TaskQueueKind.TheVariants.{Normal, Sticky, Activities}
 use Rattle.wh_events.specs.declared.event.Event.{Event}
 use Rattle.wh_events.specs.declared.key.RunKey.{RunKey}
 use Rattle.wh_events.specs.Keys.{same_key}
+use Rattle.wh_live.specs.Kinds.{kinds_noted, kinds_sent}
 use Rattle.wh_notes.specs.declared.tallies.Tally.{Tally}
+use Rattle.wh_notes.specs.Laws.{is_poll_with, is_task}
+use Rattle.wh_notes.specs.Notes.{is_answer, is_empty}
 use Rattle.wh_notes.specs.Tallies.{no_failures}
 use Rattle.wh_commands.specs.declared.names.WorkerNames.{WorkerNames}
 use Rattle.wh_messages.specs.declared.response.ActivityPoll.TheVariants.{Task}
@@ -143,11 +147,31 @@ fresh role names = record {
   later = None;
 }
 
--- a source comes from an earlier one: it has the same role and names, its answers begin with those of the earlier one,
--- and it has at least as many failures
+-- how many tasks are open
+abbrev pub open_count : Option (RunKey × List Event) → ℕ
+open_count None = 0
+open_count (Some kept) = 1
+
+-- a poll brought something, or failed
+abbrev pub is_not_empty : PollOutcome → Bool
+is_not_empty outcome = not (is_empty outcome)
+
+-- a source comes from an earlier one: it has the same role and names, its answers and its notes begin with those of the
+-- earlier one, and it has at least as many failures
 pub record ComesFrom (later first : LiveView) : Type 0 where
   pub role : later.role ≡ first.role
   pub names : later.names ≡ first.names
   pub more : Answers
   pub answers : later.answers ≡ first.answers ++ more
   pub failures : first.tally.failures ≤ later.tally.failures
+  pub more_notes : List SourceNote
+  pub notes : later.notes ≡ first.notes ++ more_notes
+  -- each answer that counts as taken is noted so, as the completion or failure that it is, and no other is, but for
+  -- failures of workflow tasks
+  pub kinds : kinds_noted more_notes ≡ kinds_sent more
+  -- no more answers count as taken than polls brought tasks or queries, and tasks were open before
+  pub polled : length more + open_count later.later
+      ≤ count_by (is_poll_with is_task) more_notes + open_count first.later
+  -- no more answers are noted than polls that were not empty, and tasks were open before
+  pub noted : count_by is_answer more_notes + open_count later.later
+      ≤ count_by (is_poll_with is_not_empty) more_notes + open_count first.later

@@ -3,7 +3,8 @@
 ghost use Rattle.std.specs.Prelude.{◌≡◌, ◌++◌, ◌∷◌, [], IfOk, OnOk, OnErr};
 ghost use Rattle.wh_tasks.specs.declared.source.Sent.TheVariants.{Activity as OfActivity};
 ghost use Rattle.wh_tasks.specs.Source.{FailsOnly};
-ghost use Rattle.wh_live.specs.Private.Activities.{IsActivityReceipt, IsActivityRequest, kind_of};
+ghost use Rattle.wh_live.specs.Kinds.{kind_of};
+ghost use Rattle.wh_live.specs.Private.Activities.{IsActivityReceipt, IsActivityRequest};
 ghost use Rattle.wh_live.specs.Private.Answering.{IsOpenReceipt, Settles};
 ghost use Rattle.wh_live.specs.Private.Noting.{NotesActivity, NotesOpen};
 

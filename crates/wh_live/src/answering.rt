@@ -10,9 +10,9 @@ ghost use Rattle.wh_messages.specs.declared.request.FailedCause.TheVariants.{Too
 ghost use Rattle.wh_tasks.specs.declared.source.Sent.TheVariants.{Workflow as OfWorkflow};
 ghost use Rattle.wh_tasks.specs.Source.{FailsOnly};
 ghost use Rattle.wh_live.specs.Answers.{cause_of, receipt_of};
-ghost use Rattle.wh_live.specs.Private.Answering.{AnswersOpen, CompletesTask, CompletesWith, FailsTask, HasAnswer, IsAnswerReceipt, IsOpenReceipt, IsReplaced, Settles, CountsFault, IsFailed, IsFailedInstead, WithholdsLater, is_reported, receipt_of_sent, reports_refusal, run_use};
+ghost use Rattle.wh_live.specs.Private.Answering.{AnswersOpen, CompletesTask, CompletesWith, FailsTask, HasAnswer, IsAnswerReceipt, IsOpenReceipt, IsReplaced, Settles, IsFailed, IsFailedInstead, WithholdsLater, is_reported, receipt_of_sent, reports_refusal, run_use};
 ghost use Rattle.wh_live.specs.Private.Noting.{NotesAnswer, NotesCommands, NotesCompletion, NotesFailure, NotesOpen};
-ghost use Rattle.wh_live.specs.Private.Noting.{NotesReplaced, NotesReply, NotesUnread, NotesWritten};
+ghost use Rattle.wh_live.specs.Private.Noting.{NotesReplaced, NotesReply, NotesWritten, SettlesUnread};
 ghost use Rattle.wh_notes.specs.Tallies.{settled};
 ghost use Rattle.wh_live.specs.Private.Receipts.{IsRequestReceipt};
 
@@ -446,9 +446,9 @@ pub(crate) fn settle_unread<L: Connection>(
     fault: &AskFault,
     notes: &mut SourceNotes,
 ) -> bool
-    ensures counts { CountsFault L.gives L.fails client.now.options.now.names current.old fault.now result }
+    ensures settles { SettlesUnread L.gives L.fails L.shows client.now.options.now.names current.old fault.now result
+        notes.old notes.new }
     ensures settled { current.new ≡ None }
-    ensures noted { NotesUnread L.shows current.old fault.now notes.old notes.new }
 {
     let Some(task) = current.take() else {
         return true;

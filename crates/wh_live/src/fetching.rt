@@ -1,11 +1,10 @@
 //! Fetches histories from their first event.
 
-ghost use Rattle.std.specs.Prelude.{◌≡◌, ◌++◌, ◌+◌, ◌==◌, None, Err, IfOk, OnOk, position};
+ghost use Rattle.std.specs.Prelude.{◌≡◌, ◌++◌, ◌+◌, ◌==◌, None, Err, IfOk, IsErr, OnOk, position};
 ghost use Rattle.wh_tasks.specs.Numbers.{last_number};
 ghost use Rattle.wh_tasks.specs.Source.{FailsOnly};
 ghost use Rattle.wh_live.specs.Deliveries.{IsFetched, continued, going_on};
-ghost use Rattle.wh_live.specs.Private.Answering.{CountsUnread};
-ghost use Rattle.wh_live.specs.Private.Noting.{NotesFetch, NotesUnread};
+ghost use Rattle.wh_live.specs.Private.Noting.{CountsFetch, CountsUnread};
 ghost use Rattle.wh_live.specs.Private.Opening.{later_of, KeepsLater};
 
 use crate::answering::settle_unread;
@@ -100,10 +99,9 @@ fn fail_fetch<L: Connection>(
     current: &mut Option<OpenTask>,
     fault: &AskFault,
 ) -> SourceFault
-    ensures tally { CountsUnread L.gives L.fails client.now.options.now.names current.old fault.now
-        tally.old tally.new }
+    ensures counts { CountsUnread L.gives L.fails L.shows client.now.options.now.names current.old fault.now
+        tally.old tally.new notes.old notes.new }
     ensures current { current.new ≡ None }
-    ensures noted { NotesUnread L.shows current.old fault.now notes.old notes.new }
     ensures failures { FailsOnly {A = Unit {0}} (Err result) tally.old.failures tally.new.failures }
 {
     let is_fault = settle_unread(client, current, fault, notes);
@@ -123,7 +121,9 @@ pub(crate) fn whole<L: Connection>(
     ensures told { IfOk result (λ history. IsFetched L.gives client.now.options.now.names run.now
         (later_of current.old run.now) up_to history.items) }
     ensures current { KeepsLater current.old current.new }
-    ensures noted { NotesFetch L.shows result current.old notes.old notes.new }
+    ensures closed { IsErr result → current.new ≡ None }
+    ensures counts { CountsFetch L.gives L.fails L.shows client.now.options.now.names result current.old
+        tally.old tally.new notes.old notes.new }
     ensures failures { FailsOnly result tally.old.failures tally.new.failures }
 {
     match fetch(client, later_of(current, run), run, up_to) {

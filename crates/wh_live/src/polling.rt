@@ -15,7 +15,8 @@ ghost use Rattle.wh_live.specs.Private.Opening.{IsOpened, OnTask, Opens, OpensAc
 ghost use Rattle.wh_live.specs.Private.Opening.{HasPollResult, HasActivityResult, IsLost, IsSilent, IsTask};
 ghost use Rattle.wh_live.specs.Private.Opening.{IsActivityFault, IsCutShort, IsWorkflowFault, MayOpen, MayRead};
 ghost use Rattle.wh_live.specs.Private.Opening.{GivesOpened, HasLater, OpensPolled, OpensPolledActivity, OpensQueued};
-ghost use Rattle.wh_live.specs.Private.Opening.{ClosesActivities, ClosesQueue, later_events};
+ghost use Rattle.wh_live.specs.Private.Opening.{ActivitiesCameTo, ClosesActivities, ClosesQueue, LeavesOpen, QueueCameTo};
+ghost use Rattle.wh_live.specs.Private.Opening.{later_events};
 ghost use Rattle.wh_live.specs.Private.Noting.{NotesPolled, NotesTaken};
 ghost use Rattle.wh_notes.specs.Polls.{IsOverIfEnded};
 ghost use Rattle.wh_replay.specs.Runs.{follows};
@@ -290,7 +291,9 @@ pub(crate) fn poll_workflow<L: Connection>(
     ensures ended { IsOverIfEnded L.fails journal.old.ended → IsOverIfEnded L.fails journal.new.ended }
     ensures closed { result ≡ Ok polled.Closed →
         ClosesQueue L.gives L.fails client.now.options.now.names (polls_sticky role) journal.old.ended }
-    ensures noted { NotesPolled L.shows result journal.old.notes journal.new.notes }
+    ensures stays { LeavesOpen result current.old current.new }
+    ensures noted { NotesPolled L.shows (QueueCameTo L.gives L.fails client.now.options.now.names (polls_sticky role))
+        result journal.old.notes journal.new.notes }
 {
     if journal.ended {
         return Ok(Polled::Closed);
@@ -321,7 +324,9 @@ pub(crate) fn poll_activity<L: Connection>(
     ensures ended { IsOverIfEnded L.fails journal.old.ended → IsOverIfEnded L.fails journal.new.ended }
     ensures closed { result ≡ Ok polled.Closed →
         ClosesActivities L.gives L.fails client.now.options.now.names role journal.old.ended }
-    ensures noted { NotesPolled L.shows result journal.old.notes journal.new.notes }
+    ensures stays { LeavesOpen result current.old current.new }
+    ensures noted { NotesPolled L.shows (ActivitiesCameTo L.gives L.fails client.now.options.now.names)
+        result journal.old.notes journal.new.notes }
 {
     if journal.ended || role != TaskQueueKind::Activities {
         return Ok(Polled::Closed);

@@ -5,6 +5,7 @@ pub mod Counts
 pub mod Notes
 pub mod Polls
 pub mod Tallies
+pub mod Texts
 pub mod Troubles
 pub mod Waits
 pub mod Laws

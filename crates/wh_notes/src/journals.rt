@@ -4,6 +4,7 @@ ghost use Rattle.std.specs.Prelude.{◌≡◌, [], Ok, IfErr, IfOk, false};
 ghost use Rattle.wh_notes.specs.Polls.{end_of, EndsPoll, MayEnd, Reports, WaitsAfter, WaitsFor, polled_of};
 ghost use Rattle.wh_notes.specs.Polls.{NotesEnd, NotesPoll, ended_after, ended_by, outcome_of};
 ghost use Rattle.wh_notes.specs.Tallies.{no_failures, with_end, with_result};
+ghost use Rattle.wh_notes.specs.Troubles.{HasFailed};
 ghost use Rattle.wh_tasks.specs.Source.{FailsOnly, IfTask};
 ghost use Rattle.wh_notes.specs.declared.results.PollResult.TheVariants.{Task};
 
@@ -65,10 +66,11 @@ fn outcome_of<T>(poll: &PollResult<T>) -> PollOutcome
 }
 
 impl Journal {
-    /// Returns an empty journal.
+    /// Returns an empty journal: no poll has failed, so that there was no wait.
     pub fn new() -> Journal
         ensures notes { result.notes ≡ [] }
         ensures tally { result.tally ≡ no_failures }
+        ensures trouble { HasFailed 0 result.trouble }
         ensures open { result.ended ≡ false }
     {
         Journal {

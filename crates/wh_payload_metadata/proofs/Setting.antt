@@ -1,5 +1,5 @@
 -- What setting a field of a header leaves, and which of the events that came sets it.
-use Rattle.std.proofs.Common.{◌≡◌, ◌<◌, ◌≤◌, ℕ, List, [], ◌∷◌, ◌++◌, length, Bool, true, false, cond, IsSome, is_some, is_none, Option, Some, None, option_map, option_and_then, Ordering, Less, Equal, Greater, is_eq, eqb, ne_eqb, lt-ltb, le-ltb, nat_cmp, string_cmp, bytes_eq, codes, String, Global, string_bytes, refl, sym, ap, ◌∙◌, arith}
+use Rattle.std.proofs.Common.{◌≡◌, ◌⊎◌, ◌<◌, ◌≤◌, ℕ, List, [], ◌∷◌, ◌++◌, length, Bool, true, false, cond, IsSome, is_some, is_none, Option, Some, None, option_map, option_and_then, Ordering, Less, Equal, Greater, is_eq, eqb, ne_eqb, lt-ltb, le-ltb, nat_cmp, string_cmp, bytes_eq, codes, String, Global, string_bytes, refl, sym, ap, ◌∙◌, append_assoc, arith, inl, inr, subst, Result, Ok, Err, OnErr}
 use mathlib.Core.Path.{fun_ext}
 use Rattle.std.proofs.lemmas.Bool.{true≢false, false≢true}
 use Rattle.std.proofs.lemmas.Option.{none-some}
@@ -16,7 +16,7 @@ use Rattle.serde_json.proofs.Views.{Entry, member_here, member_later}
 use Rattle.wh_json.specs.Fields.{field}
 use Rattle.wh_payload_metadata.specs.declared.header.Field.{Field}
 use Rattle.wh_payload_metadata.specs.declared.header.Header.{Header}
-use Rattle.wh_payload_metadata.specs.Header.{SetField, Fields, no_fields, brought_fields, brought, number_in, is_set_later, newest, field_set, fields_set, fields_after_event, fields_after, set_in, fields_of, members_of, with_fields, header_of, value_in}
+use Rattle.wh_payload_metadata.specs.Header.{SetField, Fields, IsAfterFirst, IsEachAfterFirst, IsEachOldOrSet, no_fields, brought_fields, brought, number_in, is_set_later, newest, field_set, fields_set, fields_after_event, fields_after, set_in, fields_of, members_of, with_fields, header_of, value_in}
 use Rattle.wh_payload_metadata.specs.Laws.{LastEventSets, NothingElseSets, EachFieldGoesOn}
 
 -- ---- One field
@@ -76,6 +76,43 @@ member_set number e rest fields below = fun_ext (λ name. by name (bytes_eq (str
         let apart = λ (h : name ≡ string_bytes e.0). true≢false (sym ((bytes_eq-Decides (string_bytes e.0) name).1 (sym h)) ∙ is) in
         ap (newest (fields name) number) (sym (member_later name e rest apart))
 
+-- ---- Fields of which only some were set
+
+-- what holds anyhow holds after an error
+pub on_error : {T E P : Type 0} (result : Result T E) → P → OnErr result P
+on_error (Ok done) holds = tt
+on_error (Err fault) holds = holds
+
+-- where all are set but those that are left, each field is as it was, or no longer among those that are left
+abbrev pub IsEachOldOrDone : (old now : Fields) (left : Members) → Type 0
+IsEachOldOrDone old now left = (name : List ℕ) → (now name ≡ old name) ⊎ (get_member name left ≡ None)
+
+-- and then it is as it was, or as if all were set
+pub old_or_set : (number : ℕ) (left members : Members) (old now : Fields) → fields_set number left now ≡ fields_set number members old
+    → IsEachOldOrDone old now left → IsEachOldOrSet old (fields_set number members old) now
+unfolding fields_set
+old_or_set number left members old now same done name = by (done name)
+  where
+    by : (now name ≡ old name) ⊎ (get_member name left ≡ None) → (now name ≡ old name) ⊎ (now name ≡ newest (old name) number (get_member name members))
+    by (inl is) = inl is
+    by (inr none) = inr (sym (ap (newest (now name) number) none) ∙ ap (λ (fields : Fields). fields name) same)
+
+-- so it is after the first of those that were left is set
+pub done_next : (number : ℕ) (e : Entry) (rest : List Entry) (old now : Fields) → AllByRecursion (λ y. string_cmp e.0 y ≡ Less) (keys_of rest)
+    → IsEachOldOrDone old now (members_view (e ∷ rest)) → IsEachOldOrDone old (field_set number (string_bytes e.0) (view e.1) now) (members_view rest)
+unfolding field_set
+done_next number e rest old now below done name = by (bytes_eq (string_bytes e.0) name) refl (done name)
+  where
+    by : (b : Bool) → bytes_eq (string_bytes e.0) name ≡ b → (now name ≡ old name) ⊎ (get_member name (members_view (e ∷ rest)) ≡ None)
+        → (cond b (newest (now name) number (Some (view e.1))) (now name) ≡ old name) ⊎ (get_member name (members_view rest) ≡ None)
+    by true is done_here = inr (subst (λ n. get_member n (members_view rest) ≡ None) ((bytes_eq-Decides (string_bytes e.0) name).0 is) (none_below e.0 rest below))
+    by false is (inl kept) = inl kept
+    by false is (inr none) =
+        let apart = λ (h : name ≡ string_bytes e.0). true≢false (sym ((bytes_eq-Decides (string_bytes e.0) name).1 (sym h)) ∙ is) in
+        inr (sym (member_later name e rest apart) ∙ none)
+
+-- ---- Events
+
 -- without members nothing is set
 pub nothing_set : (number : ℕ) (fields : Fields) → fields_set number no_members fields ≡ fields
 unfolding fields_set
@@ -96,7 +133,24 @@ event_quiet event fields is =
     let after = λ (brings : Option Members) (name : List ℕ). newest (fields name) (number_in event) (option_and_then (get_member name) brings) in
     ap after is
 
--- ---- Events
+pub fields_after-append : (before after : List Data) (fields : Fields) → fields_after (before ++ after) fields ≡ fields_after after (fields_after before fields)
+fields_after-append [] after fields = refl
+fields_after-append (event ∷ rest) after fields = fields_after-append rest after (fields_after_event event fields)
+
+-- after some events, and fields of the next one, each field is as after the first events
+pub after_first : (events first : List Data) (event : Data) (rest : List Data) (old now new : Fields) → events ≡ first ++ event ∷ rest
+    → now ≡ fields_after first old → IsEachOldOrSet now (fields_after_event event now) new → IsEachAfterFirst events old new
+after_first events first event rest old now new are is some name = by (some name)
+  where
+    by : (new name ≡ now name) ⊎ (new name ≡ fields_after_event event now name) → IsAfterFirst events old new name
+    by (inl kept) = record { first = first; rest = event ∷ rest; are = are; field = kept ∙ ap (λ (fields : Fields). fields name) is }
+    by (inr set) = record {
+      first = first ++ event ∷ [];
+      rest = rest;
+      are = are ∙ sym (append_assoc first (event ∷ []) rest);
+      field = set ∙ ap (λ (fields : Fields). fields_after_event event fields name) is
+          ∙ ap (λ (fields : Fields). fields name) (sym (fields_after-append first (event ∷ []) old));
+    }
 
 -- one field after events came
 abbrev field_after : List ℕ → List Data → Option SetField → Option SetField

@@ -1,5 +1,5 @@
 -- The header of a run: the events that bring its fields, which value of a field stays, and the header as it goes out.
-use Rattle.std.specs.Prelude.{ℕ, List, [], ◌∷◌, Bool, false, nat_lt, bytes_eq, codes, String, string_bytes, Option, Some, None, if◌then◌else◌, option_and_then, option_map, unwrap_or}
+use Rattle.std.specs.Prelude.{◌≡◌, ◌⊎◌, ℕ, List, [], ◌∷◌, ◌++◌, Bool, false, nat_lt, bytes_eq, codes, String, string_bytes, Option, Some, None, if◌then◌else◌, option_and_then, option_map, unwrap_or}
 use Rattle.std.specs.BTreeMap.{get_by_text}
 use Rattle.std.specs.Option.{option_or}
 use Rattle.std.specs.declared.alloc.Global.{Global}
@@ -68,6 +68,25 @@ fields_after_event event fields = λ name. newest (fields name) (number_in event
 abbrev pub fields_after : List Data → Fields → Fields
 fields_after [] fields = fields
 fields_after (event ∷ rest) fields = fields_after rest (fields_after_event event fields)
+
+-- ---- Fields of which only some were set, since there was no memory
+
+-- each field is as it was, or as if all had been set
+abbrev pub IsEachOldOrSet : (old set new : Fields) → Type 0
+IsEachOldOrSet old set new = (name : List ℕ) → (new name ≡ old name) ⊎ (new name ≡ set name)
+
+-- a field is as after some of the events, from the first one on
+pub record IsAfterFirst (events : List Data) (old new : Fields) (name : List ℕ) : Type 0 where
+  pub first : List Data
+  pub rest : List Data
+  pub are : events ≡ first ++ rest
+  pub field : new name ≡ fields_after first old name
+
+-- each field is as after some of the events, from the first one on, which may be more for one field than for another
+abbrev pub IsEachAfterFirst : List Data → (old new : Fields) → Type 0
+IsEachAfterFirst events old new = (name : List ℕ) → IsAfterFirst events old new name
+
+-- ---- The header as it goes out
 
 -- the members of an object that has a value for each entry
 abbrev pub members_by : {X : Type 0} → (String Global × X → Data) → List (String Global × X) → Members

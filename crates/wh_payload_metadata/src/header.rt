@@ -1,11 +1,12 @@
 //! The header of a run: the fields that its start and its signals set.
 
-ghost use Rattle.std.specs.Prelude.{◌≡◌, IfOk, OnOk, [], is_none, option_and_then, option_map, map, unwrap_or};
+ghost use Rattle.std.specs.Prelude.{◌≡◌, IfOk, OnOk, OnErr, [], is_none, option_and_then, option_map, map, unwrap_or};
 ghost use Rattle.serde_json.specs.Find.{as_object};
 ghost use Rattle.serde_json.specs.View.{view, members_view};
 ghost use Rattle.wh_payload_metadata.specs.Header.{attributes_of, brought_fields, number_in, events_in, no_fields};
 ghost use Rattle.wh_payload_metadata.specs.Header.{is_set_later, field_set, fields_set, fields_after_event};
 ghost use Rattle.wh_payload_metadata.specs.Header.{fields_after, fields_of, members_of, header_of};
+ghost use Rattle.wh_payload_metadata.specs.Header.{IsEachAfterFirst, IsEachOldOrSet};
 
 use crate::messages::values_of;
 use serde_json::{Map, Value, put};
@@ -97,7 +98,8 @@ impl Header {
         }
     }
 
-    /// Sets a field by the event of this number, unless a later one set it.
+    /// Sets a field by the event of this number, unless a later one set it. After an error all fields
+    /// are as they were.
     fn set(
         &mut self,
         alloc: Global,
@@ -105,8 +107,9 @@ impl Header {
         name: &str,
         value: &Value,
     ) -> Result<(), AllocError>
-        ensures { OnOk result (fields_of self.new
+        ensures set { OnOk result (fields_of self.new
             ≡ field_set number name.now (view value.now) (fields_of self.old)) }
+        ensures unset { OnErr result (fields_of self.new ≡ fields_of self.old) }
     {
         if self.is_set_later(name, number) {
             return Ok(());
@@ -118,15 +121,17 @@ impl Header {
         Ok(())
     }
 
-    /// Sets all these fields by the event of this number.
+    /// Sets all these fields by the event of this number. After an error some may have been set.
     fn set_all(
         &mut self,
         alloc: Global,
         number: u64,
         fields: &Map<String, Value>,
     ) -> Result<(), AllocError>
-        ensures { OnOk result (fields_of self.new
+        ensures set { OnOk result (fields_of self.new
             ≡ fields_set number (members_view fields.now.entries) (fields_of self.old)) }
+        ensures some { OnErr result (IsEachOldOrSet (fields_of self.old)
+            (fields_set number (members_view fields.now.entries) (fields_of self.old)) (fields_of self.new)) }
     {
         for (name, value) in fields.iter() {
             self.set(alloc, number, name.as_str(), value)?;
@@ -134,9 +139,11 @@ impl Header {
         Ok(())
     }
 
-    /// Sets the fields that an event brings.
+    /// Sets the fields that an event brings. After an error some may have been set.
     fn keep_event(&mut self, alloc: Global, event: &Value) -> Result<(), AllocError>
-        ensures { OnOk result (fields_of self.new ≡ fields_after_event (view event.now) (fields_of self.old)) }
+        ensures set { OnOk result (fields_of self.new ≡ fields_after_event (view event.now) (fields_of self.old)) }
+        ensures some { OnErr result (IsEachOldOrSet (fields_of self.old)
+            (fields_after_event (view event.now) (fields_of self.old)) (fields_of self.new)) }
     {
         match brought_fields(event) {
             Some(fields) => self.set_all(alloc, number_in(event), fields),
@@ -144,9 +151,12 @@ impl Header {
         }
     }
 
-    /// Sets the fields that these events bring.
+    /// Sets the fields that these events bring. After an error each field is as some of the events
+    /// leave it, from the first one on.
     fn keep_events(&mut self, alloc: Global, events: &[Value]) -> Result<(), AllocError>
-        ensures { OnOk result (fields_of self.new ≡ fields_after (map view events.now) (fields_of self.old)) }
+        ensures set { OnOk result (fields_of self.new ≡ fields_after (map view events.now) (fields_of self.old)) }
+        ensures some { OnErr result
+            (IsEachAfterFirst (map view events.now) (fields_of self.old) (fields_of self.new)) }
     {
         for event in events {
             self.keep_event(alloc, event)?;
@@ -155,10 +165,12 @@ impl Header {
     }
 
     /// Sets the fields that the events of a history bring. `AllocError` if there was no memory:
-    /// then some may have been set.
+    /// then each field is as some of the events leave it, from the first one on.
     pub(crate) fn keep(&mut self, alloc: Global, history: &Value) -> Result<(), AllocError>
-        ensures { OnOk result (fields_of self.new
+        ensures set { OnOk result (fields_of self.new
             ≡ fields_after (events_in (view history.now)) (fields_of self.old)) }
+        ensures some { OnErr result
+            (IsEachAfterFirst (events_in (view history.now)) (fields_of self.old) (fields_of self.new)) }
     {
         match events_in(history) {
             Some(events) => self.keep_events(alloc, events),

@@ -1,11 +1,11 @@
 //! What was seen of the payloads of a run.
 
-ghost use Rattle.std.specs.Prelude.{◌≡◌, IfOk, OnOk};
+ghost use Rattle.std.specs.Prelude.{◌≡◌, IfOk, OnOk, OnErr};
 ghost use Rattle.serde_json.specs.Data.{no_members};
 ghost use Rattle.serde_json.specs.View.{view};
 ghost use Rattle.serde_json.specs.Events.{members_len};
 ghost use Rattle.wh_payload_metadata.specs.Payloads.{payloads_of};
-ghost use Rattle.wh_payload_metadata.specs.Header.{events_in, no_fields, fields_after};
+ghost use Rattle.wh_payload_metadata.specs.Header.{IsEachAfterFirst, events_in, no_fields, fields_after};
 ghost use Rattle.wh_payload_metadata.specs.Seen.{all_noted, metadata_seen, fields_seen, header_seen, is_nothing};
 ghost use Rattle.wh_payload_metadata.specs.Handed.{handed_on};
 
@@ -63,10 +63,13 @@ impl SeenPayloads {
     /// Keeps the fields of the headers that the events of a history bring: those of the run's start
     /// and of its signals, in proto3 JSON. Of the same field the value is kept that the event with
     /// the highest number brings, whatever the order in which the events come and however often.
-    /// `AllocError` if there was no memory: then some may have been kept.
+    /// `AllocError` if there was no memory: then each field has the value that some of these events
+    /// leave it, from the first one on.
     pub fn keep_header(&mut self, alloc: Global, history: &Value) -> Result<(), AllocError>
         ensures header { OnOk result (fields_seen self.new
             ≡ fields_after (events_in (view history.now)) (fields_seen self.old)) }
+        ensures some { OnErr result
+            (IsEachAfterFirst (events_in (view history.now)) (fields_seen self.old) (fields_seen self.new)) }
         ensures metadata { metadata_seen self.new ≡ metadata_seen self.old }
     {
         self.header.keep(alloc, history)

@@ -1,5 +1,5 @@
 -- What is counted of the turns of workers, and what is reported.
-use Rattle.std.specs.Prelude.{ℕ, ◌*◌, ◌/◌, ◌-◌, ◌^◌, max, min, Bool, true, false, Option, Some, None, Result, Ok, List}
+use Rattle.std.specs.Prelude.{◌≤◌, ℕ, ◌*◌, ◌/◌, ◌-◌, ◌^◌, max, min, Bool, true, false, Option, Some, None, Result, Ok, List}
 use Rattle.wh_console.specs.declared.format.Format.{Format}
 use Rattle.wh_console.specs.declared.format.Format.TheVariants as formats
 use Rattle.wh_host.specs.declared.reply.Counts.{Counts}
@@ -10,6 +10,7 @@ use Rattle.wh_metrics.specs.Lines.{counts_text, json_text}
 use Rattle.wh_metrics.specs.declared.metrics.Gauges.{Gauges}
 use Rattle.wh_metrics.specs.declared.metrics.Metrics.{Metrics}
 use Rattle.wh_metrics.specs.declared.metrics.TaskSlots.{TaskSlots}
+use Rattle.wh_metrics.specs.declared.metrics.TaskTimes.{TaskTimes}
 use Rattle.wh_notes.specs.Counts.{no_source_counts}
 use Rattle.wh_notes.specs.Sums.{together}
 use Rattle.wh_notes.specs.Untaken.{completed_of, failed_of, failures_of, refused_of}
@@ -85,9 +86,48 @@ metrics_now turns sources (Some counts) = metrics_of (record turns {
   failed = failed_of sources.untaken counts.failed;
 }) sources (Some (held_of counts))
 
--- the counts, of which those of tasks are no lower than they were last
+-- the times of tasks, none of which is lower than it was last
+abbrev pub no_lower_times : (last now : TaskTimes) → TaskTimes
+no_lower_times last now = record {
+  count = max last.count now.count;
+  sum = max last.sum now.sum;
+  longest = max last.longest now.longest;
+}
+
+-- the counts, none of which is lower than it was last, beside what the host holds
 abbrev pub no_lower : (last now : Metrics) → Metrics
-no_lower last now = record now { completed = max last.completed now.completed; failed = max last.failed now.failed }
+no_lower last now = record {
+  completed = max last.completed now.completed;
+  failed = max last.failed now.failed;
+  held = now.held;
+  hits = max last.hits now.hits;
+  misses = max last.misses now.misses;
+  polls = max last.polls now.polls;
+  empty_polls = max last.empty_polls now.empty_polls;
+  not_found = max last.not_found now.not_found;
+  refused = max last.refused now.refused;
+  workflow_times = no_lower_times last.workflow_times now.workflow_times;
+  activity_times = no_lower_times last.activity_times now.activity_times;
+}
+
+-- no time of tasks is lower than it was last
+pub record NoTimeFalls (last now : TaskTimes) : Type 0 where
+  pub count : last.count ≤ now.count
+  pub sum : last.sum ≤ now.sum
+  pub longest : last.longest ≤ now.longest
+
+-- no counter is lower than it was last
+pub record NoCounterFalls (last now : Metrics) : Type 0 where
+  pub completed : last.completed ≤ now.completed
+  pub failed : last.failed ≤ now.failed
+  pub hits : last.hits ≤ now.hits
+  pub misses : last.misses ≤ now.misses
+  pub polls : last.polls ≤ now.polls
+  pub empty_polls : last.empty_polls ≤ now.empty_polls
+  pub not_found : last.not_found ≤ now.not_found
+  pub refused : last.refused ≤ now.refused
+  pub workflow_times : NoTimeFalls last.workflow_times now.workflow_times
+  pub activity_times : NoTimeFalls last.activity_times now.activity_times
 
 -- tasks that are over
 abbrev pub answered : Metrics → ℕ

@@ -2,11 +2,12 @@
 
 ghost use Rattle.std.specs.Prelude.{◌≡◌, ◌≤◌, ◌-◌, max};
 ghost use Rattle.wh_work.specs.Progress.{answered, end_metrics, ended, found, held_of, metrics_now, metrics_of};
-ghost use Rattle.wh_work.specs.Progress.{no_lower, no_turns, nothing, rate_of, slots_of, with_turn};
+ghost use Rattle.wh_work.specs.Progress.{NoCounterFalls, NoTimeFalls, no_lower, no_lower_times, no_turns};
+ghost use Rattle.wh_work.specs.Progress.{nothing, rate_of, slots_of, with_turn};
 
 use wh_crew::LiveEnd;
 use wh_host::{Counts, Outcome};
-use wh_metrics::{Gauges, Metrics, TaskSlots};
+use wh_metrics::{Gauges, Metrics, TaskSlots, TaskTimes};
 use wh_notes::SourceCounts;
 use wh_poll::{Served, SourceFault};
 use wh_slots::SlotCount;
@@ -170,16 +171,37 @@ pub(crate) fn end_metrics(turns: TurnCounts, end: &LiveEnd) -> Metrics
     metrics_of(tasks, end.sources, None)
 }
 
-/// The counts, of which those of tasks are no lower than they were last. An answer that the server
-/// did not take is counted before the host has finished its task, so they could fall for a moment,
-/// which Prometheus takes for a new process.
+/// The times of tasks, none of which is lower than it was last.
+fn no_lower_times(last: TaskTimes, now: TaskTimes) -> TaskTimes
+    ensures is { result ≡ no_lower_times last now }
+    ensures stands { NoTimeFalls last result }
+{
+    TaskTimes {
+        count: last.count.max(now.count),
+        sum: last.sum.max(now.sum),
+        longest: last.longest.max(now.longest),
+    }
+}
+
+/// The counts, none of which is lower than it was last, beside what the host holds. An answer that
+/// the server did not take is counted before the host has finished its task, so the counts of tasks
+/// could fall for a moment, which Prometheus takes for a new process.
 pub(crate) fn no_lower(last: Metrics, now: Metrics) -> Metrics
-    ensures { result ≡ no_lower last now }
+    ensures is { result ≡ no_lower last now }
+    ensures stands { NoCounterFalls last result }
 {
     Metrics {
         completed: last.completed.max(now.completed),
         failed: last.failed.max(now.failed),
-        ..now
+        held: now.held,
+        hits: last.hits.max(now.hits),
+        misses: last.misses.max(now.misses),
+        polls: last.polls.max(now.polls),
+        empty_polls: last.empty_polls.max(now.empty_polls),
+        not_found: last.not_found.max(now.not_found),
+        refused: last.refused.max(now.refused),
+        workflow_times: no_lower_times(last.workflow_times, now.workflow_times),
+        activity_times: no_lower_times(last.activity_times, now.activity_times),
     }
 }
 

@@ -3,7 +3,7 @@
 ghost use Rattle.std.specs.Prelude.{◌≡◌, IfOk, None, string_bytes};
 ghost use Rattle.wh_metrics.specs.Exposition.{metrics_text};
 ghost use Rattle.wh_metrics.specs.Labels.{labels_text};
-ghost use Rattle.wh_work.specs.MetricsPaths.{replace_words, unwritten_words};
+ghost use Rattle.wh_work.specs.MetricsPaths.{beside_text, replace_words, unwritten_words};
 
 use crate::metrics_path::{Obstacle, obstacle_at, path_beside};
 use std::alloc::{AllocError, Global};
@@ -117,12 +117,19 @@ impl<R: Files> FileReplacer for R {
 }
 
 impl<'a> MetricsFile<'a> {
-    /// The file at a path, for the counts of a worker of these names.
+    /// The file at a path, for the counts of a worker of these names. `AllocError` if there was no
+    /// memory.
     pub(crate) fn new(
         alloc: Global,
         path: &'a str,
         names: &'a WorkerNames,
-    ) -> Result<MetricsFile<'a>, AllocError> {
+    ) -> Result<MetricsFile<'a>, AllocError>
+        ensures path { IfOk result (λ file. file.path.now ≡ path.entry.now) }
+        ensures beside { IfOk result (λ file. string_bytes file.beside ≡ beside_text path.entry.now) }
+        ensures namespace { IfOk result (λ file. file.labels.namespace.now ≡ names.entry.now.namespace) }
+        ensures queue { IfOk result (λ file. file.labels.task_queue.now ≡ names.entry.now.task_queue) }
+        ensures identity { IfOk result (λ file. file.labels.identity.now ≡ names.entry.now.identity) }
+    {
         Ok(MetricsFile {
             path,
             beside: path_beside(alloc, path)?,

@@ -1,9 +1,10 @@
 //! How far live tasks have come.
 
-ghost use Rattle.std.specs.Prelude.{Some};
+ghost use Rattle.std.specs.Prelude.{◌≡◌, ◌*◌, Some, option_map, unwrap_or};
+ghost use Rattle.std.specs.Duration.{as_nanos};
 ghost use Rattle.wh_work.specs.Progress.{line_as};
 
-use crate::counting::{end_metrics, nothing};
+use crate::counting::nothing;
 use crate::metrics_file::{FileReplacer, MetricsFile};
 use crate::sources::SourceCounter;
 use crate::turns::{Report, Turns};
@@ -74,8 +75,8 @@ pub(crate) struct ProgressReporter<'a, 's, R> {
 
 impl<'a, 's, R: Wait + Clock> ProgressReporter<'a, 's, R> {
     /// One that begins now, for a program of a name. It reports in a form after so many seconds
-    /// each, if it does, and keeps the counts in the file, if there is one. What the sources do is
-    /// counted beside it.
+    /// each, if it does, and keeps the counts in the file, if there is one: as often as it reports,
+    /// and otherwise every ten seconds. What the sources do is counted beside it.
     pub(crate) fn new(
         rt: &'a R,
         name: &'a str,
@@ -83,7 +84,10 @@ impl<'a, 's, R: Wait + Clock> ProgressReporter<'a, 's, R> {
         format: Format,
         file: Option<MetricsFile<'a>>,
         sources: &'s SourceCounter<'a, R>,
-    ) -> ProgressReporter<'a, 's, R> {
+    ) -> ProgressReporter<'a, 's, R>
+        ensures period { as_nanos result.period ≡ unwrap_or seconds 10 * 1000000000 }
+        ensures lines { result.lines ≡ option_map (λ _. format) seconds }
+    {
         ProgressReporter {
             rt,
             name,
@@ -149,8 +153,8 @@ impl<R: Wait + Eprint + FileReplacer + AllocGlobal> ProgressReporter<'_, '_, R> 
 
     /// Keeps what was counted in all.
     pub(crate) fn end(&self, end: &LiveEnd) {
-        let counts = self.turns.lock(self.rt).counts;
-        self.keep(end_metrics(counts, end));
+        let metrics = self.turns.lock(self.rt).end(end);
+        self.keep(metrics);
     }
 
     /// Writes a line on standard error.

@@ -1,9 +1,13 @@
 //! What is counted of the turns of all workers, and what is reported.
 
 ghost use Rattle.std.specs.Prelude.{◌≡◌, ◌-◌, false, max};
-ghost use Rattle.wh_work.specs.Progress.{answered, metrics_now, no_lower, no_turns, nothing, rate_of};
+ghost use Rattle.wh_work.specs.Progress.{NoCounterFalls, answered, end_metrics, metrics_now, no_lower};
+ghost use Rattle.wh_work.specs.Progress.{no_turns, nothing, rate_of};
 
-use crate::counting::{TurnCounts, answered_tasks, metrics_now, no_lower, nothing, rate_of};
+use crate::counting::{
+    TurnCounts, answered_tasks, end_metrics, metrics_now, no_lower, nothing, rate_of,
+};
+use wh_crew::LiveEnd;
 use wh_host::Counts;
 use wh_metrics::Metrics;
 use wh_notes::SourceCounts;
@@ -54,7 +58,7 @@ impl Turns {
     }
 
     /// What is to be reported, with what the sources have done, and with what the host counts and
-    /// holds, if it gives that.
+    /// holds, if it gives that. No count is lower than the last time.
     pub(crate) fn report(
         &mut self,
         now: u64,
@@ -66,11 +70,21 @@ impl Turns {
         ensures rate { result.rate ≡ rate_of (max (now - self.old.reported) 1)
             (answered result.metrics - answered self.old.last) }
         ensures kept { self.new ≡ record self.old { last = result.metrics; reported = now } }
+        ensures stands { NoCounterFalls self.old.last result.metrics }
     {
         let metrics = no_lower(self.last, metrics_now(self.counts, sources, counts));
         let rate = self.rate(now, &metrics);
         self.last = metrics;
         self.reported = now;
         Report { metrics, rate }
+    }
+
+    /// What was counted in all, by how live work ended. No count is lower than the last time that
+    /// counts were reported.
+    pub(crate) fn end(&self, end: &LiveEnd) -> Metrics
+        ensures metrics { result ≡ no_lower self.now.last (end_metrics self.now.counts end.now) }
+        ensures stands { NoCounterFalls self.now.last result }
+    {
+        no_lower(self.last, end_metrics(self.counts, end))
     }
 }

@@ -3,8 +3,6 @@ use Rattle.std.specs.Prelude.{◌≡◌, ◌≢◌, ℕ, List, Bool, true, codes
 use Rattle.wh_client.specs.Calls.{Fails, Gives}
 use Rattle.wh_client.specs.Heartbeats.{IsFailedActivity, WasCanceled}
 use Rattle.wh_client.specs.Requests.{IsRequest}
-use Rattle.wh_client.specs.declared.answers.AnswerKind.{AnswerKind}
-use Rattle.wh_client.specs.declared.answers.AnswerKind.TheVariants.{ActivityCompletion, ActivityFailure}
 use Rattle.wh_client.specs.declared.codes.Receipt.{Receipt}
 use Rattle.wh_client.specs.declared.codes.Receipt.TheVariants.{NoMemory}
 use Rattle.wh_client.specs.declared.requests.Request.{Request}
@@ -14,11 +12,6 @@ use Rattle.wh_live.specs.declared.tasks.OpenTask.{OpenTask}
 use Rattle.wh_live.specs.Private.Receipts.{IsRequestReceipt}
 use Rattle.wh_tasks.specs.declared.source.ActivityAnswer.{ActivityAnswer}
 use Rattle.wh_tasks.specs.declared.source.ActivityAnswer.TheVariants.{Completed, Failed}
-
--- which answer an activity task gets: that it failed is also told where its activity was canceled
-abbrev pub kind_of : ActivityAnswer → AnswerKind
-kind_of (Completed outcome) = ActivityCompletion
-kind_of (Failed failure) = ActivityFailure
 
 -- an activity's result is sent as such, even if the activity was to be canceled; its failure is sent as canceled if it
 -- was to be canceled, otherwise as failed

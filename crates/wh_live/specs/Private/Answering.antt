@@ -25,7 +25,6 @@ use Rattle.wh_events.specs.declared.key.RunKey.{RunKey}
 use Rattle.wh_commands.specs.CarryingOver.{Carried, continues, nothing_carried}
 use Rattle.wh_commands.specs.declared.names.WorkerNames.{WorkerNames}
 use Rattle.wh_messages.specs.declared.request.FailedCause.{FailedCause}
-use Rattle.wh_messages.specs.declared.request.FailedCause.TheVariants.{Unhandled}
 use Rattle.wh_messages.specs.Requests.{workflow_completed, workflow_failed}
 use Rattle.wh_replay.specs.declared.run.Answer.{Answer}
 use Rattle.wh_replay.specs.declared.run.Answer.TheVariants.{Complete, Fail}
@@ -35,7 +34,7 @@ use Rattle.wh_tasks.specs.declared.source.RunUse.TheVariants.{Cache, Discard}
 use Rattle.wh_workflow.specs.declared.command.Command.{Command}
 use Rattle.wh_notes.specs.declared.tallies.Tally.{Tally}
 use Rattle.wh_live.specs.declared.tasks.OpenTask.{OpenTask}
-use Rattle.wh_notes.specs.Tallies.{settled, with_failure}
+use Rattle.wh_notes.specs.Tallies.{settled}
 use Rattle.wh_live.specs.Private.Receipts.{IsReceiptOf, IsRefusedAsLarge}
 use Rattle.wh_tasks.specs.declared.source.SourceFault.{SourceFault}
 
@@ -230,24 +229,6 @@ is_reported asked.Unreadable = true
 is_reported asked.TooManyPages = true
 is_reported (asked.History fault) = true
 is_reported asked.OutOfMemory = false
-
--- a history that could not be fetched is a fault of the source, unless the bridge has closed, or the open task was
--- failed for malformed events
-abbrev pub CountsFault : Gives → Fails → WorkerNames → Option OpenTask → AskFault → Bool → Type 0
-CountsFault gives fails names None fault counts = counts ≡ true
-CountsFault gives fails names (Some task) asked.Closed counts = counts ≡ false
-CountsFault gives fails names (Some task) asked.Output counts = counts ≡ true
-CountsFault gives fails names (Some task) (asked.Refused status code message) counts = counts ≡ true
-CountsFault gives fails names (Some task) asked.Unreadable counts = counts ≡ true
-CountsFault gives fails names (Some task) asked.TooManyPages counts = counts ≡ true
-CountsFault gives fails names (Some task) (asked.History fault) counts =
-    counts ≡ false → IsFailed gives fails names task.token task.attempt Unhandled
-CountsFault gives fails names (Some task) asked.OutOfMemory counts = counts ≡ true
-
--- the tally after a history could not be fetched
-abbrev pub CountsUnread : Gives → Fails → WorkerNames → Option OpenTask → AskFault → Tally → Tally → Type 0
-CountsUnread gives fails names open_task fault old new =
-    (counts : Bool) × CountsFault gives fails names open_task fault counts × (new ≡ with_failure counts old)
 
 -- the run is cached if the server acknowledged the answer, and did not discard the task
 abbrev pub run_use : Receipt → RunUse

@@ -1,5 +1,5 @@
--- What a source notes of the answers that it sends.
-use Rattle.std.specs.Prelude.{◌≡◌, ◌≢◌, ◌⊎◌, ◌++◌, ◌∷◌, ◌-◌, [], ℕ, List, true, Option, Some, None, Result, Ok, Err}
+-- What a source notes of its polls, and of the answers that it sends.
+use Rattle.std.specs.Prelude.{◌≡◌, ◌≢◌, ◌⊎◌, ◌↔◌, ◌<◌, ◌++◌, ◌∷◌, ◌-◌, [], ℕ, List, Bool, true, false, Option, Some, None, Result, Ok, Err}
 use Rattle.std.specs.List.{list_any}
 use Rattle.wh_client.specs.Calls.{Fails, Gives}
 use Rattle.wh_client.specs.Polls.{GivesQuery}
@@ -15,6 +15,7 @@ use Rattle.wh_client.specs.declared.notes.SourceNote.{SourceNote}
 use Rattle.wh_client.specs.declared.notes.SourceNote.TheVariants.{Poll, Answer as AnAnswer}
 use Rattle.wh_commands.specs.CarryingOver.{continues}
 use Rattle.wh_commands.specs.declared.names.WorkerNames.{WorkerNames}
+use Rattle.wh_messages.specs.declared.request.FailedCause.TheVariants.{Unhandled}
 use Rattle.wh_messages.specs.declared.response.QueryPoll.{QueryPoll}
 use Rattle.wh_replay.specs.declared.run.Answer.{Answer}
 use Rattle.wh_replay.specs.declared.run.Answer.TheVariants.{Complete, Fail}
@@ -24,11 +25,13 @@ use Rattle.wh_tasks.specs.declared.source.Polled.{Polled}
 use Rattle.wh_tasks.specs.declared.source.Polled.TheVariants as polled
 use Rattle.wh_tasks.specs.declared.source.SourceFault.{SourceFault}
 use Rattle.wh_workflow.specs.declared.command.Command.{Command}
-use Rattle.wh_live.specs.Private.Activities.{kind_of}
-use Rattle.wh_live.specs.Private.Answering.{IsNotOpen, IsUnsent}
+use Rattle.wh_live.specs.Kinds.{kind_of}
+use Rattle.wh_live.specs.Private.Answering.{FailsTask, IsNotOpen, IsUnsent}
 use Rattle.wh_live.specs.declared.tasks.OpenTask.{OpenTask}
+use Rattle.wh_notes.specs.Tallies.{with_failure}
 use Rattle.wh_notes.specs.declared.results.PollResult.{PollResult}
 use Rattle.wh_notes.specs.declared.results.PollResult.TheVariants.{Task, Empty, Settled, Lost}
+use Rattle.wh_notes.specs.declared.tallies.Tally.{Tally}
 
 -- all that a source has noted
 abbrev pub Notes : Type 0
@@ -116,31 +119,68 @@ NotesTaken gives shows (Ok (Lost text)) old new = new ≡ old
 NotesTaken gives shows (Err fault) old new =
     (new ≡ old) ⊎ ((fault ≡ asked.OutOfMemory) × NotesMalformed shows old new)
 
--- the open task is failed if its history is malformed, which is noted; nothing is of another fault
-abbrev pub NotesUnread : Shows → Option OpenTask → AskFault → (old new : Notes) → Type 0
-NotesUnread shows None fault old new = new ≡ old
-NotesUnread shows (Some task) asked.Closed old new = new ≡ old
-NotesUnread shows (Some task) asked.Output old new = new ≡ old
-NotesUnread shows (Some task) (asked.Refused status code message) old new = new ≡ old
-NotesUnread shows (Some task) asked.Unreadable old new = new ≡ old
-NotesUnread shows (Some task) asked.TooManyPages old new = new ≡ old
-NotesUnread shows (Some task) (asked.History fault) old new =
-    (receipt : Receipt) × NotesFailure shows task.since receipt old new
-NotesUnread shows (Some task) asked.OutOfMemory old new = new ≡ old
+-- the open task is failed for its malformed history, which is noted; that counts as a fault of the source exactly if
+-- there was no memory for it
+pub record FailsUnread (gives : Gives) (fails : Fails) (shows : Shows) (names : WorkerNames) (task : OpenTask)
+    (counts : Bool) (old new : Notes) : Type 0 where
+  pub receipt : Receipt
+  pub later : receipt ≢ NoMemory → (receipt ≡ Withheld) ↔ (1 < task.attempt)
+  pub sent : receipt ≢ Withheld → FailsTask gives fails names task.token Unhandled receipt
+  pub noted : NotesFailure shows task.since receipt old new
+  pub counted : (counts ≡ true) ↔ (receipt ≡ NoMemory)
 
--- nothing is noted of a history that was fetched; otherwise what is, by the fault
-abbrev pub NotesFetch : {A : Type 0} → Shows → Result A SourceFault → Option OpenTask → (old new : Notes) → Type 0
-NotesFetch shows (Ok history) open_task old new = new ≡ old
-NotesFetch shows (Err failure) open_task old new = (fault : AskFault) × NotesUnread shows open_task fault old new
+-- whether a history that could not be fetched counts as a fault of the source, and what is noted of it: it is such a
+-- fault unless the bridge has closed, or the open task was failed for malformed events, which alone is noted
+abbrev pub SettlesUnread : Gives → Fails → Shows → WorkerNames → Option OpenTask → AskFault → (counts : Bool)
+    → (old new : Notes) → Type 0
+SettlesUnread gives fails shows names None fault counts old new = (counts ≡ true) × (new ≡ old)
+SettlesUnread gives fails shows names (Some task) asked.Closed counts old new = (counts ≡ false) × (new ≡ old)
+SettlesUnread gives fails shows names (Some task) asked.Output counts old new = (counts ≡ true) × (new ≡ old)
+SettlesUnread gives fails shows names (Some task) (asked.Refused status code message) counts old new =
+    (counts ≡ true) × (new ≡ old)
+SettlesUnread gives fails shows names (Some task) asked.Unreadable counts old new = (counts ≡ true) × (new ≡ old)
+SettlesUnread gives fails shows names (Some task) asked.TooManyPages counts old new = (counts ≡ true) × (new ≡ old)
+SettlesUnread gives fails shows names (Some task) (asked.History fault) counts old new =
+    FailsUnread gives fails shows names task counts old new
+SettlesUnread gives fails shows names (Some task) asked.OutOfMemory counts old new = (counts ≡ true) × (new ≡ old)
+
+-- the tally and the notes after a history could not be fetched
+pub record CountsUnread (gives : Gives) (fails : Fails) (shows : Shows) (names : WorkerNames)
+    (open_task : Option OpenTask) (fault : AskFault) (old_tally new_tally : Tally) (old new : Notes) : Type 0 where
+  pub counts : Bool
+  pub settles : SettlesUnread gives fails shows names open_task fault counts old new
+  pub tally : new_tally ≡ with_failure counts old_tally
+
+-- nothing is counted or noted of a history that was fetched; otherwise what is, by the fault
+abbrev pub CountsFetch : {A : Type 0} → Gives → Fails → Shows → WorkerNames → Result A SourceFault → Option OpenTask
+    → (old_tally new_tally : Tally) → (old new : Notes) → Type 0
+CountsFetch gives fails shows names (Ok history) open_task old_tally new_tally old new =
+    (new_tally ≡ old_tally) × (new ≡ old)
+CountsFetch gives fails shows names (Err failure) open_task old_tally new_tally old new =
+    (fault : AskFault) × CountsUnread gives fails shows names open_task fault old_tally new_tally old new
 
 -- ---- Polls
 
--- a poll notes itself, last, by what its source reports: a task, a failure, or any outcome where there is no task; before
--- that only that a task was failed for its malformed history. A closed poll notes nothing
-abbrev pub NotesPolled : {A : Type 0} → Shows → Result (Polled A) SourceFault → (old new : Notes) → Type 0
-NotesPolled shows (Ok (polled.Task task)) old new = new ≡ old ++ Poll outcome.Task ∷ []
-NotesPolled shows (Ok polled.Nothing) old new = (between : Notes)
-    × ((between ≡ old) ⊎ NotesMalformed shows old between)
-    × ((of : PollOutcome) × (new ≡ between ++ Poll of ∷ []))
-NotesPolled shows (Ok polled.Closed) old new = new ≡ old
-NotesPolled shows (Err fault) old new = new ≡ old ++ Poll outcome.Failure ∷ []
+-- what may be noted before a poll without a task notes itself: that its task was failed for its malformed history,
+-- unless the poll was empty
+abbrev pub MayPrecede : Shows → PollOutcome → (old new : Notes) → Type 0
+MayPrecede shows outcome.Empty old new = new ≡ old
+MayPrecede shows outcome.Task old new = (new ≡ old) ⊎ NotesMalformed shows old new
+MayPrecede shows outcome.Failure old new = (new ≡ old) ⊎ NotesMalformed shows old new
+
+-- a poll that brought its worker no task notes what it came to, last
+pub record NotesNoTask (shows : Shows) (came : PollOutcome → Type 0) (old new : Notes) : Type 0 where
+  pub of : PollOutcome
+  pub is : came of
+  pub between : Notes
+  pub before : MayPrecede shows of old between
+  pub noted : new ≡ between ++ Poll of ∷ []
+
+-- a poll notes itself, last, by what its source reports: a task, a failure, or, where there is no task, what it came to.
+-- A closed poll notes nothing
+abbrev pub NotesPolled : {A : Type 0} → Shows → (came : PollOutcome → Type 0) → Result (Polled A) SourceFault
+    → (old new : Notes) → Type 0
+NotesPolled shows came (Ok (polled.Task task)) old new = new ≡ old ++ Poll outcome.Task ∷ []
+NotesPolled shows came (Ok polled.Nothing) old new = NotesNoTask shows came old new
+NotesPolled shows came (Ok polled.Closed) old new = new ≡ old
+NotesPolled shows came (Err fault) old new = new ≡ old ++ Poll outcome.Failure ∷ []

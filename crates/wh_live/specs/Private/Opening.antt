@@ -9,7 +9,10 @@ use Rattle.wh_client.specs.Polls.{IsActivityPoll, IsWorkflowPoll}
 use Rattle.wh_client.specs.Refusals.{HasItsStatus, IsFaultBy}
 use Rattle.wh_client.specs.declared.asking.AskFault.{AskFault}
 use Rattle.wh_client.specs.declared.asking.AskFault.TheVariants as asked
-use Rattle.wh_client.specs.declared.codes.PollEnd.TheVariants.{Closed}
+use Rattle.wh_client.specs.declared.codes.PollEnd.{PollEnd}
+use Rattle.wh_client.specs.declared.codes.PollEnd.TheVariants.{Closed, Later}
+use Rattle.wh_client.specs.declared.notes.PollOutcome.{PollOutcome}
+use Rattle.wh_client.specs.declared.notes.PollOutcome.TheVariants as outcome
 use Rattle.wh_client.specs.declared.options.TaskQueueKind.{TaskQueueKind}
 use Rattle.wh_client.specs.declared.options.TaskQueueKind.TheVariants.{Activities}
 use Rattle.wh_events.specs.declared.event.Event.{Event}
@@ -192,6 +195,13 @@ IsOpened (Ok polled.Nothing) old result new = (result ≡ Ok polled.Nothing) × 
 IsOpened (Ok polled.Closed) old result new = (result ≡ Ok polled.Closed) × (new ≡ old)
 IsOpened (Err fault) old result new = (result ≡ Err fault) × (new ≡ old)
 
+-- a poll that delivers no task leaves the open one
+abbrev pub LeavesOpen : {A : Type 0} → Result (Polled A) SourceFault → (old new : Option OpenTask) → Type 0
+LeavesOpen (Ok (polled.Task task)) old new = ⊤
+LeavesOpen (Ok polled.Nothing) old new = new ≡ old
+LeavesOpen (Ok polled.Closed) old new = new ≡ old
+LeavesOpen (Err fault) old new = new ≡ old
+
 -- ---- Later events
 
 -- the run of a task and its later events
@@ -231,21 +241,49 @@ IsActivityFault gives fails names fault =
     IsFaultBy (fails (codes "PollActivityTaskQueue") (poll_activity names)) fault
     ⊎ ((fault ≡ asked.Unreadable) × IsActivityPoll gives names ActivityPoll.Unreadable)
 
--- ---- Closed sources
+-- ---- What polls come to
 
--- a poll came to a fault after which there are no more tasks
-pub record IsClosedBy (came : AskFault → Type 0) : Type 0 where
+-- a poll came to a fault after which this follows
+pub record EndsIn (end : PollEnd) (came : AskFault → Type 0) : Type 0 where
   pub fault : AskFault
   pub is : came fault
   pub status : HasItsStatus fault
-  pub ends : end_of fault ≡ Closed
+  pub ends : end_of fault ≡ end
+
+-- the result of a poll is a task or a query
+abbrev pub IsFilled : read.Poll → Type 0
+IsFilled read.nothing = ⊥
+IsFilled (read.task polled) = ⊤
+IsFilled (read.query token result) = ⊤
+IsFilled read.unreadable = ⊥
+
+-- what a poll of a queue that brought its worker no task came to: an empty response; a task that is settled or given up,
+-- or a query; or a fault after which a later poll may succeed
+abbrev pub CameTo : Gives → Fails → WorkerNames → Bool → PollOutcome → Type 0
+CameTo gives fails names sticky outcome.Empty = IsWorkflowPoll gives names sticky read.nothing
+CameTo gives fails names sticky outcome.Task =
+    (poll : read.Poll) × IsFilled poll × IsWorkflowPoll gives names sticky poll
+CameTo gives fails names sticky outcome.Failure = EndsIn Later (IsWorkflowFault gives fails names sticky)
+
+-- the same for the queue of a source, if it has one
+abbrev pub QueueCameTo : Gives → Fails → WorkerNames → Option Bool → PollOutcome → Type 0
+QueueCameTo gives fails names None of = ⊥
+QueueCameTo gives fails names (Some sticky) of = CameTo gives fails names sticky of
+
+-- what a poll for activity tasks that brought none came to: each task is delivered
+abbrev pub ActivitiesCameTo : Gives → Fails → WorkerNames → PollOutcome → Type 0
+ActivitiesCameTo gives fails names outcome.Empty = IsActivityPoll gives names ActivityPoll.Nothing
+ActivitiesCameTo gives fails names outcome.Task = ⊥
+ActivitiesCameTo gives fails names outcome.Failure = EndsIn Later (IsActivityFault gives fails names)
+
+-- ---- Closed sources
 
 -- why a source is closed for workflow tasks: it was ended before, or polls no queue for them, or its poll was closed
 abbrev pub ClosesQueue : Gives → Fails → WorkerNames → Option Bool → Bool → Type 0
 ClosesQueue gives fails names queue ended = (ended ≡ true) ⊎ ((queue ≡ None)
-    ⊎ ((sticky : Bool) × (queue ≡ Some sticky) × IsClosedBy (IsWorkflowFault gives fails names sticky)))
+    ⊎ ((sticky : Bool) × (queue ≡ Some sticky) × EndsIn Closed (IsWorkflowFault gives fails names sticky)))
 
 -- the same for activity tasks
 abbrev pub ClosesActivities : Gives → Fails → WorkerNames → TaskQueueKind → Bool → Type 0
 ClosesActivities gives fails names role ended =
-    (ended ≡ true) ⊎ ((role ≢ Activities) ⊎ IsClosedBy (IsActivityFault gives fails names))
+    (ended ≡ true) ⊎ ((role ≢ Activities) ⊎ EndsIn Closed (IsActivityFault gives fails names))

@@ -1,7 +1,8 @@
 use Rattle.std.proofs.Common.{inr}
-use Rattle.wh_live.specs.Private.Opening.{IsActivityFault}
+use Rattle.wh_live.specs.Private.Opening.{ActivitiesCameTo, IsActivityFault}
 use Rattle.wh_live.proofs.Ending.{activity_over, closed_by, over_if_ended}
-use Rattle.wh_live.proofs.Noted.{noted_polled, nothing_before_activity}
+use Rattle.wh_live.proofs.Later.{leaves_open}
+use Rattle.wh_live.proofs.Noted.{activities_came_to, noted_polled, nothing_before_activity}
 use Rattle.wh_live.proofs.polling.poll_activity.Goals as goal
 
 -- the poll that failed has shown whether a later one can succeed
@@ -24,13 +25,21 @@ returns-clause-closed g c =
     let came = IsActivityFault g.L.Connection.gives g.L.Connection.fails c.args.client.now.options.now.names in
     λ closed. inr (inr (closed_by came c.take_activity-taken.result c.note_poll-polled.result c.args.current.now c.open_polled.result c.open_polled.new.current c.take_activity-taken.ensures.failed c.take_activity-taken.ensures.refused c.note_poll-polled.ensures.reports c.open_polled.ensures closed))
 
+-- a poll that delivers no task leaves the open one
+pub returns-clause-stays : goal.returns-clause-stays
+returns-clause-stays g c =
+    leaves_open c.note_poll-polled.result c.args.current.now c.open_polled.result c.open_polled.new.current c.open_polled.ensures
+
 -- the poll notes itself by what the source reports
 pub returns-clause-noted : goal.returns-clause-noted
 returns-clause-noted g c =
     let gives = g.L.Connection.gives in
     let shows = g.L.Connection.shows in
+    let fails = g.L.Connection.fails in
+    let names = c.args.client.now.options.now.names in
     let notes = c.args.journal.now.notes in
-    noted_polled gives shows c.take_activity-taken.result c.note_poll-polled.result c.args.current.now c.open_polled.result
+    noted_polled gives shows (ActivitiesCameTo gives fails names) c.take_activity-taken.result c.note_poll-polled.result c.args.current.now c.open_polled.result
     c.open_polled.new.current notes notes c.note_poll-polled.new.self.notes
-    (nothing_before_activity gives shows c.args.client.now.options.now.names c.take_activity-taken.result notes c.take_activity-taken.ensures.brings)
+    (activities_came_to gives fails names c.take_activity-taken.result c.take_activity-taken.ensures.brings c.take_activity-taken.ensures.failed c.take_activity-taken.ensures.refused)
+    (nothing_before_activity gives shows names c.take_activity-taken.result notes c.take_activity-taken.ensures.brings)
     c.note_poll-polled.ensures.notes c.note_poll-polled.ensures.reports c.open_polled.ensures

@@ -1,10 +1,22 @@
-use Rattle.std.proofs.Common.{refl}
+use Rattle.std.proofs.Common.{ap, option_map, refl, sym}
+use Rattle.wh_slots.specs.declared.TaskName.{TaskName}
+use Rattle.wh_tasks.specs.declared.source.Sent.{Sent}
 use Rattle.wh_tasks.specs.declared.source.Sent.TheVariants.{Activity as OfActivity}
+use Rattle.wh_live.specs.Private.Noting.{NotesActivity}
+use Rattle.wh_live.specs.Private.Opening.{later_kept}
+use Rattle.wh_live.proofs.Adding.{by_activity, noted_as}
 use Rattle.wh_live.proofs.Keeping.{answered}
 use Rattle.wh_live.proofs.live_source.LiveSourceTaskSource.answer_activity.Goals as goal
 
--- the answer is added if it counts as taken, and nothing else changes but counts
+-- the answer is added if it counts as taken, and noted; nothing else changes but the open task and counts
 pub returns-clause-keeps : goal.returns-clause-keeps
 returns-clause-keeps g c =
-    answered g.L.Connection.gives _ c.args.self.now _ c.answer_activity.result (c.args.name, OfActivity c.args.answer) c.self.view_is refl refl
-    c.answer_activity.ensures.sent c.answer_activity.ensures.unsent c.answer_activity.ensures.failures
+    let C = g.L.Connection in
+    let one : TaskName × Sent = (c.args.name, OfActivity c.args.answer) in
+    let settled = c.answer_activity.ensures.settled in
+    answered C.gives _ c.args.self.now _ c.answer_activity.result one settled.receipt c.take-current.result c.self.view_is refl refl
+    (ap (option_map later_kept) (sym c.take-current.ensures.value)) (ap (option_map later_kept) c.take-current.ensures.after)
+    c.answer_activity.ensures.sent c.answer_activity.ensures.unsent settled.taken c.answer_activity.ensures.failures
+    (noted_as _ (NotesActivity C.shows c.args.answer) one c.take-current.result c.args.name settled.receipt _ _
+    (λ task. by_activity C.shows c.args.answer task settled.receipt _ _)
+    settled.is.0 settled.is.1)
