@@ -1,4 +1,4 @@
-//! The program `wfhost` with the commands of one history alone.
+//! The program `wfhost` with the commands of histories `explain` and `query` alone.
 #![tactic(auto)]
 
 ghost use Rattle.std.specs.Prelude.{◌≡◌, IfErr, IfOk, map, string_bytes};
@@ -13,7 +13,7 @@ use wh_console::{Console, ErrorPrinter};
 use wh_diagnostics::{
     Failure, UNCALLED, fail, fail_under, lack, output, plan, print, program_name, words,
 };
-use wh_file_commands::{explain_path, page_path, query_path, view_path};
+use wh_file_commands::{explain_path, page_path, query_path, view_paths};
 use wh_sample_workflows::{Registered, types};
 use wh_workflow::Queryable;
 
@@ -43,9 +43,10 @@ fn obey<W: Queryable, R: Runtime + AllocGlobal, O: Write, E: Write>(
         } => page_path::<W, R, O, E>(rt, file, only_recorded, console),
         Plan::View {
             file,
+            more,
             selection,
             format,
-        } => view_path::<R, O, E>(rt, file, selection, format, console),
+        } => view_paths::<R, O, E>(rt, file, more, selection, format, console),
         Plan::Query {
             file,
             query_type,

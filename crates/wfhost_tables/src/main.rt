@@ -14,7 +14,7 @@ use wh_diagnostics::{
     Failure, UNCALLED, fail, fail_under, lack, output, plan, print, program_name, words,
 };
 use wh_sample_workflows::types;
-use wh_table_commands::{check_paths, picture_path, try_path};
+use wh_table_commands::{check_paths, picture_path, try_paths};
 
 /// What the commands are called.
 const COMMANDS: &str = "the commands check and try";
@@ -34,7 +34,12 @@ fn obey<R: Runtime + AllocGlobal, O: Write, E: Write>(
             check_paths::<R, O, E>(rt, file, more, format, console)
         }
         Plan::Picture { file } => picture_path::<R, O, E>(rt, file, console),
-        Plan::Try { file, scenario } => try_path::<R, O, E>(rt, file, scenario, console),
+        Plan::Try {
+            file,
+            more,
+            scenario,
+            format,
+        } => try_paths::<R, O, E>(rt, file, more, scenario, format, console),
         Plan::Help { text } => print(text.get(), console),
         other => {
             drop(other);

@@ -29,8 +29,8 @@ serve d --strict-values => bad line
 explain d/x.json => explain d/x.json
 explain - => explain -
 explain --json d/x.json => explain d/x.json as JSON
-explain --recorded d/x.json => view All of d/x.json
-explain - --json --recorded => view All of - as JSON
+explain --recorded d/x.json => view d/x.json
+explain - --json --recorded => view - as JSON
 explain x --recorded --last 1 => view Last(1) of x
 explain --last 67108864 --recorded x => view Last(67108864) of x
 explain --recorded --last 67108865 x => bad line
@@ -43,6 +43,13 @@ explain --last 2 x => explain Last(2) of x
 explain --all x => explain All of x
 explain --all --json - => explain All of - as JSON
 explain --recorded --all x => view All of x
+explain --recorded a.json d - => view a.json d -
+explain a d --json --recorded => view a d as JSON
+explain --recorded --all a b => bad line
+explain --recorded a b --last 2 => bad line
+explain --around 2 --recorded a b => bad line
+explain --html --recorded a b => bad line
+explain --html a b => bad line
 explain --all --last 2 x => bad line
 explain --all --around 2 x => bad line
 explain --last 2 --around 2 --recorded x => bad line
@@ -71,10 +78,20 @@ check --html => bad line
 check => bad line
 check --json --json a.json => bad line
 try a.json => try a.json
-try a.json start => try a.json start
+try a.json start => try a.json on start
+try a.json --json start => try a.json on start as JSON
+try a.json start; => try a.json on start;
+try a.json start=>Complete => try a.json on start=>Complete
+try start => try start
+try start start => try start on start
+try a.json start.json => try a.json start.json
+try a.json ./start => try a.json ./start
+try --json d b.json => try d b.json as JSON
+try a.json b start => bad line
 try a.json start b => bad line
 try => bad line
-try --json a.json => bad line
+try --json => bad line
+try --json --json a.json => bad line
 serve d => serve d, workers 1, cache 100, cache events 0, slots 100
 serve d --workers 64 --cache 0 --cache-events 512000000 --slots 1000 => serve d, workers 64, cache 0, cache events 512000000, slots 1000
 serve d --workers 1 --cache 10000 --slots 1 => serve d, workers 1, cache 10000, cache events 0, slots 1
@@ -164,11 +181,20 @@ For more information, try '--help'.
 
 const NO_FILE: &str = "\
 error: the following required arguments were not provided:
-  <FILE>
+  <FILE>...
 
-Usage: shop explain <FILE>
+Usage: shop explain <FILE>...
 
 For more information, try '--help'.
+";
+
+/// The text of a refused line after `error: `, for more files where one is taken.
+const ONE_FILE: &str = "\
+explain a b => explain takes one file, unless --recorded is given
+explain --recorded --last 1 a b => --all, --around and --last take one file
+explain --html a b => --html takes one file, and can't be given with --json, --all, --around or --last
+try a b start => a scenario takes one file
+try a start b => a scenario takes one file
 ";
 
 /// The text of a refused line after `error: --`, for an option with a bad value.
@@ -216,14 +242,29 @@ fn add_progress(rt: &impl Abort, text: &mut String, progress: bool) {
         .expect(rt, "memory");
 }
 
-/// A command with its words.
-fn command_text(rt: &impl Abort, alloc: Global, name: &str, first: &Text, more: &[Text]) -> String {
-    let mut text = joined(rt, alloc, name, first.get());
-    for word in more {
+/// A text, and words after it.
+fn listed(rt: &impl Abort, alloc: Global, text: &str, words: &[Text]) -> String {
+    let mut text = String::from_str(alloc, text).expect(rt, "memory");
+    for word in words {
         text.push_str(" ").expect(rt, "memory");
         text.push_str(word.get()).expect(rt, "memory");
     }
     text
+}
+
+/// A command with its words.
+fn command_text(rt: &impl Abort, alloc: Global, name: &str, first: &Text, more: &[Text]) -> String {
+    let text = joined(rt, alloc, name, first.get());
+    listed(rt, alloc, text.as_str(), more)
+}
+
+/// A trial as text, with the scenario if it is given one.
+fn scenario_text(rt: &impl Abort, alloc: Global, text: String, scenario: &Option<Text>) -> String {
+    let Some(scenario) = scenario else {
+        return text;
+    };
+    let text = joined(rt, alloc, text.as_str(), " on ");
+    joined(rt, alloc, text.as_str(), scenario.get())
 }
 
 /// A plan to serve, as text.
@@ -327,10 +368,12 @@ fn plan_text(rt: &impl Abort, alloc: Global, plan: &Plan) -> String {
         }
         Plan::View {
             file,
+            more,
             selection,
             format,
         } => {
-            let mut text = selected_text(rt, alloc, "view ", Some(*selection), file);
+            let text = selected_text(rt, alloc, "view ", *selection, file);
+            let mut text = listed(rt, alloc, text.as_str(), more);
             add_flags(rt, &mut text, *format == Format::Json, false);
             text
         }
@@ -352,7 +395,17 @@ fn plan_text(rt: &impl Abort, alloc: Global, plan: &Plan) -> String {
             text
         }
         Plan::Picture { file } => joined(rt, alloc, "picture of ", file.get()),
-        Plan::Try { file, scenario } => command_text(rt, alloc, "try ", file, scenario.as_slice()),
+        Plan::Try {
+            file,
+            more,
+            scenario,
+            format,
+        } => {
+            let text = command_text(rt, alloc, "try ", file, more);
+            let mut text = scenario_text(rt, alloc, text, scenario);
+            add_flags(rt, &mut text, *format == Format::Json, false);
+            text
+        }
         Plan::Query {
             file,
             query_type,
@@ -460,6 +513,21 @@ fn names_bad_values(rt: HostRuntime) {
     for line in BAD_VALUES.lines() {
         let (words, wanted) = row(line).expect(&rt, line);
         let text = format!(in rt.alloc(); "error: --{wanted}\n");
+        says(
+            &rt,
+            rt.alloc(),
+            "wfhost",
+            words,
+            text.expect(&rt, "memory").as_str(),
+        );
+    }
+}
+
+#[test]
+fn says_what_takes_one_file(rt: HostRuntime) {
+    for line in ONE_FILE.lines() {
+        let (words, wanted) = row(line).expect(&rt, line);
+        let text = format!(in rt.alloc(); "error: {wanted}\n");
         says(
             &rt,
             rt.alloc(),

@@ -4,7 +4,7 @@ use std::alloc::Global;
 use std::process::Abort;
 use test_support::{bytes_of, cut, row, same, with_status};
 use wh_events::{Items, Payload, Text};
-use wh_query_report::{
+use wh_file_commands::{
     Format, Queried, query_command, query_file, query_of, status_of, write_queried,
 };
 use wh_sample_workflows::All;

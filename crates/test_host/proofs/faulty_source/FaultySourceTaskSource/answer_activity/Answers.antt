@@ -1,5 +1,0 @@
-use Rattle.std.proofs.Common.{rules}
-use Rattle.test_host.proofs.faulty_source.FaultySourceTaskSource.answer_activity.Goals as goal
-
-pub returns-clause-sent : goal.returns-clause-sent
-returns-clause-sent g c = search rules

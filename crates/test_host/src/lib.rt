@@ -1,9 +1,0 @@
-//! Tests of the libraries that serve tasks, from the slots to the workers, by their public calls:
-//! what no contract says. And the source that fails in a chosen call, to test what hosts do then.
-#![tactic(auto)]
-
-mod faulty_source;
-#[cfg(test)]
-mod tests;
-
-pub use faulty_source::FaultySource;
