@@ -8,10 +8,13 @@ by an id is there, and the times of the picture are those of the table. Its verd
 marked is the one that the line names, and both sides of a difference are those that `replay` tells. Whatever the history holds
 stands as text: a history whose names are hostile has the very tags of the same history with plain names. A run of a table has
 that table with marks at the rows that it took, and no other page has one. The head says what the first lines of `explain
---recorded` say, and of an open run what it waits for; a line tells a failure with its causes, and has their stack traces. Things
-are named by their types, each event leads to its line by an id, and many things of a type share a row of the picture; of more
-than 300 those that failed or are open are shown, and the slowest. The page of `check --html` has each promise with its mark, and the jobs that break it. The pictures in
-docs/pictures are those of the pages that the program makes now.
+--recorded` say, and of an open run what it waits for; a line tells a failure with its causes, and has their stack traces. The
+sums by type are those of its last lines, each with a link to the event of the longest, and a row tells how long a thing waited
+and took. Things are named by their types, each event leads to its line by an id, and many things of a type share a row of the
+picture, which tells how many there are in all; of more than 300 the failed ones are shown first, then the open ones, and then
+the slowest. Markers and updates are named as `explain --recorded` names them. Of more than 300 tasks an open run shows the last.
+A request to cancel a thing is marked in its lane. The page of `check --html` has each promise with its mark, and the jobs that
+break it. The pictures in docs/pictures are those of the pages that the program makes now.
 
     tests/pages.py [--program PATH]       crates/wfhost/out/wfhost, where it isn't given
     .. --sizes                            prints how large each page is, and how long it took
@@ -35,13 +38,14 @@ from itertools import chain
 from pathlib import Path
 
 from rows import PROGRAM, TOP, need, try_rows, words_of
+from statuses.sdk_runs import GO, ODD, TYPESCRIPT
 
 EXAMPLES = TOP / "examples" / "histories"
 RUN = TOP / "examples" / "runs" / "canceled_order.json"
 VOID = {"meta"}
 KNOWN = set(
     "html head meta title style body header h1 h2 h3 p dl div dt dd main section pre code svg desc defs pattern line"
-    " text tspan strong rect circle g span path table thead tbody tr th td details summary ol ul li footer".split()
+    " text tspan strong rect circle g span path table thead tbody tr th td details summary ol ul li footer a".split()
 )
 # What stands in place of a character that can't be seen.
 UNSEEN = re.compile("[\x80-\x9f\u200e\u200f\u2028-\u202e\u2066-\u2069\u061c\ufeff]")
@@ -104,6 +108,7 @@ class Page(HTMLParser):
         self.lanes = []
         self.in_lane = False
         self.rows = []
+        self.sums = []
         self.tasks = []
         self.facts = {}
         self.fact = ""
@@ -124,7 +129,8 @@ class Page(HTMLParser):
         if tag not in KNOWN:
             self.wrong.append(f"unknown tag {tag}")
         for name, value in attributes:
-            if name.startswith("on") or name in ("href", "src", "action", "xlink:href", "srcset", "style"):
+            is_link = tag == "a" and name == "href" and re.fullmatch(r"#event-\d+", value or "")
+            if name.startswith("on") or name in ("href", "src", "action", "xlink:href", "srcset", "style") and not is_link:
                 self.wrong.append(f"{tag} has {name}={value!r}")
         self.ids += [names["id"]] if "id" in names else []
         for name in ("aria-labelledby", "aria-describedby"):
@@ -140,9 +146,11 @@ class Page(HTMLParser):
         if tag in ("rect", "circle") and self.in_lane and self.open[-1] == "g":
             self.lanes[-1]["signs"].append(names)
         if tag == "tr" and "tbody" in self.open:
-            self.rows.append({"class": classes, "cells": []})
-        if tag in ("td", "th") and "tbody" in self.open and self.rows:
-            self.rows[-1]["cells"].append("")
+            self.table().append({"class": classes, "cells": [], "links": []})
+        if tag in ("td", "th") and "tbody" in self.open and self.table():
+            self.table()[-1]["cells"].append("")
+        if tag == "a" and "tbody" in self.open and self.table():
+            self.table()[-1]["links"].append(names.get("href"))
         if tag == "details" and classes != ["trace"]:
             self.tasks.append({"open": "open" in names, "lines": []})
         if tag == "li" and "details" in self.open:
@@ -159,6 +167,10 @@ class Page(HTMLParser):
             self.facts[self.fact] = ""
         if tag not in VOID:
             self.open.append(tag)
+
+    def table(self):
+        """The rows so far of the table that is being read: that of the sums by type, or that of the things."""
+        return self.sums if "sums" in self.sections else self.rows
 
     def handle_startendtag(self, tag, attributes):
         self.handle_starttag(tag, attributes)
@@ -181,8 +193,8 @@ class Page(HTMLParser):
             self.parts[self.part] += data
         if self.open[-2:] == ["g", "title"] and self.in_lane:
             self.lanes[-1]["title"] += data
-        if self.rows and self.rows[-1]["cells"] and ("td" in self.open or "th" in self.open):
-            self.rows[-1]["cells"][-1] += data
+        if self.table() and self.table()[-1]["cells"] and ("td" in self.open or "th" in self.open):
+            self.table()[-1]["cells"][-1] += data
         if "pre" in self.open and "li" not in self.open:
             self.sides[-1] += data
         if self.open.count("details") == 1 and "li" in self.open:
@@ -204,6 +216,10 @@ class Page(HTMLParser):
 
     def unknown_decl(self, data):
         self.wrong.append(f"a declaration {data[:40]!r}")
+
+    def texts_of_said(self):
+        """What the rows of the picture say beside their bars."""
+        return re.findall(r'<text class="said" [^>]*>([^<]*)</text>', self.html)
 
     def judge(self):
         """What is wrong with the page by itself."""
@@ -269,7 +285,18 @@ class Page(HTMLParser):
         waits = last.removeprefix("running; ").replace("; waits for ", "\n").removeprefix("waits for ").split("\n") if last else []
         if self.waits != waits or bool(last) != (word == "Running"):
             wrong.append(f"the page waits for {self.waits}, the text {last!r}")
+        summed = [line for line in rest if re.match(r"(activity|timer|child)( .*)?: \d+ times", line)]
+        if [self.sum_words(row["cells"]) for row in self.sums] != summed:
+            wrong.append(f"the page sums up {[row['cells'] for row in self.sums]}, the text {summed}")
         return wrong
+
+    @staticmethod
+    def sum_words(cells):
+        """The line of `explain --recorded` for a row of the sums by type."""
+        name, times, failed, pending, median, longest = cells
+        counts = "".join(f", {count} {word}" for count, word in ((failed, "failed"), (pending, "open")) if count != "0")
+        lengths = re.fullmatch(r"(.*) event (\d+)", longest)
+        return f"{name}: {times} times{counts}" + (f", median {median}, longest {lengths[1]} (event {lengths[2]})" if lengths else "")
 
     def judge_verdict(self, told, name):
         """What is wrong with the page beside what `replay` told: its line, and its notes on standard error."""
@@ -490,7 +517,7 @@ def judge_troubles(page):
         wrong += [] if text in task["text"] else [f"no {text!r} in {task['text']!r}"]
     chain = "CardError: declined <- TIMEOUT_TYPE_START_TO_CLOSE: too <b>slow</b>, retry state RETRY_STATE_MAXIMUM_ATTEMPTS_REACHED"
     wrong += [] if f", because {chain}" in step["text"] else [f"no {chain!r} in {step['text']!r}"]
-    wrong += [] if any(row["cells"][6] == f"failed: {chain}" for row in page.rows) else [f"no row says {chain!r}"]
+    wrong += [] if any(row["cells"][7] == f"failed: {chain}" for row in page.rows) else [f"no row says {chain!r}"]
     wrong += [] if task["trace"] == "TypeError: no such field\nat run (invoice.ts:4)\n" else [f"the trace {task['trace']!r}"]
     told = step["trace"].splitlines()
     if told[:2] != ["CardError: declined", "at Card.pay(Card.java:0)"] or len(told) != 100 or "24 more lines." not in "".join(page.texts):
@@ -537,11 +564,119 @@ def judge_sdk(page, name):
         wrong.append("the picture does not name ChargeCard by its type")
     if name == "go" and "ActivityTaskScheduled ChargeCard #13" not in "".join(page.texts):
         wrong.append("no line names ChargeCard by its type")
+    given = [(row["cells"], row["links"]) for row in page.sums]
+    wrong += [] if given == SUMS[name] else [f"the sums by type are {given}"]
+    if name == "go":
+        spans = [(row["cells"][5], row["cells"][6]) for row in page.rows]
+        # An activity is started after seven seconds, and ends after seven more; a marker takes no time, and a timer does not wait.
+        wrong += [] if spans == [("", ""), *[("7.0 s", "7.0 s")] * 3, ("", "7.0 s")] else [f"the things waited and took {spans}"]
     if name == "python":
         tops = set(re.findall(r'<g class="lane activity[^"]*" transform="translate\(0 (\d+)\)">', page.html))
         if len(tops) != 1 or "80 times, 1 failed" not in "".join(page.texts):
             wrong.append(f"80 charges stand at {tops}")
     return wrong
+
+
+def sum_row(name, times, failed, pending, median, longest, event):
+    """A row of the sums by type, with its link."""
+    return [name, str(times), str(failed), str(pending), median, f"{longest} event {event}"], [f"#event-{event}"]
+
+
+# The sums by type of the runs that an SDK recorded. Events are seven seconds apart: an activity takes 14 s from its opening to its
+# end, and what has no start 7 s. The charge 40 takes an hour more; it is opened by the event 6 * 40 - 1, since each round of a
+# workflow task and a charge has six events. No time is known of what is open.
+SUMS = {
+    "go": [
+        sum_row("activity ReserveStock", 1, 0, 0, "14 s", "14 s", 7),
+        sum_row("activity ChargeCard", 1, 1, 0, "14 s", "14 s", 13),
+        sum_row("activity ReleaseStock", 1, 0, 0, "14 s", "14 s", 19),
+        sum_row("timer", 1, 0, 0, "7.0 s", "7.0 s", 25),
+    ],
+    "typescript": [sum_row("activity priceOf", 1, 0, 0, "14 s", "14 s", 7)],
+    "java": [sum_row("child InvoiceWorkflow", 1, 0, 0, "35 s", "35 s", 8)],
+    "python": [sum_row("activity charge", 80, 1, 0, "14 s", "1 h", 239)],
+}
+
+
+# Runs with markers and updates: the rows of the markers, by name and outcome; the starts of lines of tasks, by their events; and
+# what the heads of two tasks say that they give.
+MARKED = {
+    "go-markers": (
+        [("pricing version", "version 2"), ("side effect 1", "recorded"), ("ValidateOrder local activity", "recorded, attempt 1")],
+        {5: "MarkerRecorded version pricing 2", 7: "MarkerRecorded side effect 1", 8: "MarkerRecorded local activity ValidateOrder, attempt 1"},
+        ["MarkerRecorded version pricing 2 and 4 more", "WorkflowExecutionFailed"],
+    ),
+    "typescript-markers": (
+        [("fix-tax patch", "recorded"), ("price local activity", "recorded, attempt 2")],
+        {5: "MarkerRecorded patch fix-tax", 7: "MarkerRecorded local activity price, attempt 2", 14: "WorkflowExecutionUpdateAccepted addItem #u-1"},
+        ["MarkerRecorded patch fix-tax and 4 more", "WorkflowExecutionUpdateAccepted addItem #u-1 and 2 more"],
+    ),
+    # A version without the id of its change is named as other markers are, and a local activity whose type is bytes by its kind.
+    "odd-markers": (
+        [("rate mutable side effect", "recorded"), ("old-tax patch", "recorded, deprecated"), ("Version", "recorded"), ("local activity", "recorded")],
+        {5: "MarkerRecorded mutable side effect rate", 6: "MarkerRecorded patch old-tax, deprecated", 7: "MarkerRecorded Version", 8: "MarkerRecorded local activity"},
+        ["MarkerRecorded mutable side effect rate and 3 more"],
+    ),
+}
+
+
+def judge_marked(page, name):
+    """What is wrong with how the page of a run names its markers and updates."""
+    rows, lines, heads = MARKED[name]
+    shown = [(row["cells"][0], row["cells"][7]) for row in page.rows if row["cells"][1] == "marker"]
+    wrong = [] if shown == rows else [f"the markers are {shown}"]
+    texts = {line["id"]: line["text"] for task in page.tasks for line in task["lines"]}
+    for number, start in lines.items():
+        told = texts.get(f"event-{number}", "")
+        wrong += [] if start in told else [f"no {start!r} in {told!r}"]
+    given = re.findall(r"<summary>Task [^<]*, gives ([^<]*) <span", page.html)
+    return wrong + ([] if given == heads else [f"the tasks give {given}"])
+
+
+def pending_crowd():
+    """A history of 310 activities of one type that are open, and of three that failed after all of them were opened."""
+    history = History()
+    history.add("WorkflowExecutionStarted", workflowType={"name": "Crowd"})
+    history.task()
+    for number in range(310):
+        history.add("ActivityTaskScheduled", activityId=f"open-{number}", activityType={"name": "Step"})
+    for number in range(3):
+        activity(history, f"failed-{number}", "Step", fails="late")
+    return history.text()
+
+
+def judge_pending_crowd(page):
+    """What is wrong with the page of that: the failed ones are shown first, and then the first of those that are open."""
+    heads = [row["cells"][0].removeprefix("Step ") for row in page.rows]
+    wanted = [f"open-{number}" for number in range(297)] + [f"failed-{number}" for number in range(3)]
+    wrong = [] if heads == wanted else [f"it shows {heads[-5:]} of {len(heads)}"]
+    # Of 313 in all, 300 are drawn; the failed and the open ones are counted of all.
+    return wrong + ([] if "300 of 313, 3 failed, 310 open" in page.texts_of_said() else [f"a row says {page.texts_of_said()}"])
+
+
+def cancelling():
+    """A run that requests the cancellation of two activities, by the events 11 and 12: the first is canceled, the second open."""
+    history = History()
+    history.add("WorkflowExecutionStarted", workflowType={"name": "GiveUp"})
+    history.task()
+    first = str(history.add("ActivityTaskScheduled", activityId="first", activityType={"name": "Step"}))
+    second = str(history.add("ActivityTaskScheduled", activityId="second", activityType={"name": "Step"}))
+    history.add("WorkflowExecutionSignaled", signalName="stop")
+    history.task()
+    history.add("ActivityTaskCancelRequested", scheduledEventId=first)
+    history.add("ActivityTaskCancelRequested", scheduledEventId=second)
+    history.add("ActivityTaskCanceled", scheduledEventId=first)
+    return history.text()
+
+
+def judge_cancelling(page):
+    """What is wrong with the page of that: each request is named in its row, and marked in its lane."""
+    told = [(row["cells"][5], row["cells"][6], row["cells"][7]) for row in page.rows[:2]]
+    # The first is opened by the event 5 and ended by the event 13, eight times seven seconds later.
+    wanted = [("", "56 s", "canceled, cancellation requested by event 11"), ("", "", "open, cancellation requested by event 12")]
+    wrong = [] if told == wanted else [f"the rows say {told}"]
+    marks = [sum(sign["class"] == "cancel" for sign in lane["signs"]) for lane in page.lanes]
+    return wrong + ([] if marks == [1, 1, 0] else [f"the lanes have {marks} marks"])
 
 
 def crowd():
@@ -565,7 +700,17 @@ def judge_crowd(page):
     """What is wrong with the page of that: the things that failed, are open or are slow are shown."""
     heads = [row["cells"][0] for row in page.rows]
     wrong = [f"{name} is not shown" for name in ("step-390", "waits", "slow", "step-1") if f"Step {name}" not in heads]
-    return wrong + ([] if len(heads) == 300 else [f"{len(heads)} things"])
+    wrong += [] if len(heads) == 300 else [f"{len(heads)} things"]
+    wrong += [] if "300 of 400, 1 failed, 1 open" in page.texts_of_said() else [f"a row says {page.texts_of_said()}"]
+    # Each round before the slow activity has six events, and the workflow task of its own round three; it takes an hour and 7 s.
+    given, wanted = [(row["cells"], row["links"]) for row in page.sums], [sum_row("activity Step", 400, 1, 1, "14 s", "1 h", 1199)]
+    wrong += [] if given == wanted else [f"the sums by type are {given}"]
+    # The run is open: its last 300 tasks are shown. No code is registered for it, so that replay has a fault in its first task,
+    # and then the page shows the tasks from that on.
+    shown = [number for number in (1, 100, 101, 400) if re.search(rf"<summary>Task {number}\b", page.html)]
+    wanted, before, after = ([101, 400], 100, 0) if "recorded, and not replayed" in page.html else ([1, 100, 101], 0, 100)
+    told = f"300 of 400 are shown; {before} before them and {after} after them are left out."
+    return wrong + ([] if shown == wanted and told in page.texts else [f"it shows the tasks {shown} of 1, 100, 101 and 400"])
 
 
 def judge_promises(program, room):
@@ -769,11 +914,16 @@ def histories():
     texts = {name: json.dumps(whole) for name, whole in edited()}
     second = ("ActivityTaskScheduled", {"activityId": "2", "activityType": {"name": "more"}})
     texts |= {"go": of_go(), "typescript": of_typescript(), "java": of_java(), "python": of_python(), "crowd": crowd()}
-    texts |= {"troubles": of_troubles(), "many-open": many_open()}
+    texts |= {"troubles": of_troubles(), "many-open": many_open(), "pending-crowd": pending_crowd(), "cancelling": cancelling()}
+    texts |= {"go-markers": GO.decode(), "typescript-markers": TYPESCRIPT.decode(), "odd-markers": ODD.decode()}
     texts |= {"no-event": uneven([]), "other": uneven([second]), "crowded": crowded()}
     texts |= {name: named(given) for name, given in NAMES.items()} | {"big": big()}
     worded = [one[:60].replace(" ", "_") for one in NAMES["hostile"]]
     return texts | {"table": tabled(NAMES["plain"][:8]), "hostile-table": tabled(worded[:8])}
+
+
+# What is wrong with the pages of some of them.
+JUDGES = {"troubles": judge_troubles, "crowd": judge_crowd, "pending-crowd": judge_pending_crowd, "cancelling": judge_cancelling}
 
 
 def trials(program, room, pages, has_sizes):
@@ -792,14 +942,12 @@ def trials(program, room, pages, has_sizes):
                 faults.append("other tags than with plain names")
             if name in ("go", "typescript", "java", "python"):
                 faults += judge_sdk(page, name)
-            if name == "troubles":
-                faults += judge_troubles(page)
+            faults += judge_marked(page, name) if name in MARKED else []
             if name == "many-open" and (len(page.waits) != 41 or page.waits[40] != "10 more"):
                 faults.append(f"it waits for {len(page.waits)}, at last {page.waits[-1:]}")
             if name in HEADED:
                 faults += page.judge_head(program.run("explain", "--recorded", file))
-            if name == "crowd":
-                faults += judge_crowd(page)
+            faults += JUDGES[name](page) if name in JUDGES else []
             if name in ("table", "hostile-table") and not recorded:
                 faults += judge_way(page)
             elif "way" in page.ids:

@@ -12,7 +12,7 @@ Commands:
   explain  Replays a history, and prints what the workflow was told and gave, task by task
   query    Replays a history, and prints what the workflow answers to a query after its last task
   check    Checks workflows that are tables in files, and prints each fault
-  try      Gives a workflow that is a table in a file the jobs of a scenario, and prints its commands
+  try      Gives workflows that are tables in files the jobs of scenarios, and prints their commands
   serve    Serves each history of a folder as workflow tasks, and prints how they ended
   work     Serves live tasks, which it asks for and answers in JSON on the standard output and input
   help     Print this message or the help of the given subcommand(s)
@@ -45,10 +45,10 @@ Options:
 """
 EXPLAIN_HELP = """Replays a history, and prints what the workflow was told and gave, task by task
 
-Usage: wfhost explain [OPTIONS] <FILE>
+Usage: wfhost explain [OPTIONS] <FILE>...
 
 Arguments:
-  <FILE>  The history file that is read, or - for the standard input
+  <FILE>...  The history file that is read, or - for the standard input; with --recorded also more files, and folders
 
 Options:
       --json            Prints the explanation as JSON
@@ -84,15 +84,16 @@ Options:
       --html  Prints a page with a picture of the states
   -h, --help  Print help
 """
-TRY_HELP = """Gives a workflow that is a table in a file the jobs of a scenario, and prints its commands
+TRY_HELP = """Gives workflows that are tables in files the jobs of scenarios, and prints their commands
 
-Usage: wfhost try <FILE> [SCENARIO]
+Usage: wfhost try [OPTIONS] <FILE>...
 
 Arguments:
-  <FILE>      A table (JSON)
-  [SCENARIO]  Jobs, and after => their commands; without it the file beside FILE, whose name ends in .txt
+  <FILE>...  A table (JSON) or a folder of tables; behind one table also a scenario: 'start ..', jobs, and after => \
+their commands. Without it the file beside each table, whose name ends in .txt
 
 Options:
+      --json  Prints the runs as JSON
   -h, --help  Print help
 """
 SERVE_HELP = """Serves each history of a folder as workflow tasks, and prints how they ended
@@ -147,6 +148,8 @@ def command_lines(room):
     bad = [
         ["explain"],
         ["explain", well, well],
+        ["explain", "--html", "--recorded", well, well],
+        *(["explain", "--recorded", *words, well, well] for words in (["--all"], ["--last", "1"], ["--around", "1"])),
         ["replay"],
         ["replay", "--json"],
         ["replay", well, "--json", "--json"],
@@ -158,6 +161,8 @@ def command_lines(room):
         ["check"],
         ["try"],
         ["try", well, "start", "start"],
+        ["try", well, "start", well],
+        ["try", "--json", "--json", well],
         *(["serve", well, "--workers", number] for number in ("0", "65", "x", "")),
         *(["serve", well, "--cache", number] for number in ("-1", "10001")),
         ["serve", well, "--cache-events", "512000001"],

@@ -136,15 +136,15 @@ Failed (event 15) 2024-05-01T10:19:33.000Z, after 19 min 33 s
   told WorkflowExecutionStarted Order (event 1) 2024-05-01T10:00:00.000Z, attempt 1
       {"customer":"Zoë Müller"}
 task 1: WorkflowTaskCompleted (event 4) 2024-05-01T10:00:00.000Z
-  gives MarkerRecorded pricing (event 5) 2024-05-01T10:00:00.000Z
+  gives MarkerRecorded version pricing 2 (event 5) 2024-05-01T10:00:00.000Z
       change-id "pricing"
       version 2
   gives UpsertWorkflowSearchAttributes (event 6) 2024-05-01T10:00:00.000Z
       TemporalChangeVersion ["pricing-2"]
-  gives MarkerRecorded SideEffect (event 7) 2024-05-01T10:00:00.000Z
+  gives MarkerRecorded side effect 1 (event 7) 2024-05-01T10:00:00.000Z
       data "a1"
       side-effect-id 1
-  gives MarkerRecorded LocalActivity (event 8) 2024-05-01T10:00:00.000Z
+  gives MarkerRecorded local activity ValidateOrder (event 8) 2024-05-01T10:00:00.000Z, attempt 1
       data {"ActivityID":"1","ActivityType":"ValidateOrder","Attempt":1}
       result {"valid":true}
   gives ActivityTaskScheduled 9 ChargeCard (event 9) 2024-05-01T10:00:00.000Z, started (event 10), ended (event 11)
@@ -159,6 +159,13 @@ activity ChargeCard: 1 times, 1 failed, median 19 min 33 s, longest 19 min 33 s 
 """
 GO_RUN = """{"events":15,"tasks":2,"things":4,"run":{"status":"Failed","workflowId":"order-17","runId":"5e0c7a1e-0000-4000-8000-000000000001","taskQueue":"orders","parentWorkflowId":"shop-1","parentRunId":"77f0","closed":15,"seconds":1173.000}}
 """
+
+# What its markers record, among the members of their events.
+GO_MARKERS = [
+    '"marker":{"kind":"version","name":"pricing","version":2},"recorded":',
+    '"marker":{"kind":"sideEffect","name":"1"},"recorded":',
+    '"marker":{"kind":"localActivity","name":"ValidateOrder","attempt":1},"recorded":',
+]
 
 # A cart that hangs: no worker takes its workflow task.
 TYPESCRIPT = history(
@@ -183,14 +190,14 @@ TYPESCRIPT = history(
             "searchAttributes": {"indexedFields": {"CustomerId": payload("c-7", type="Keyword")}},
         },
     ),
-    ("MarkerRecorded", 0, marker("core_local_activity", 4, data={"activity_type": "price"}, result=12)),
+    ("MarkerRecorded", 0, marker("core_local_activity", 4, data={"activity_type": "price", "attempt": 2}, result=12)),
     ("TimerStarted", 0, {"timerId": "1", "startToFireTimeout": "1209600s", "workflowTaskCompletedEventId": "4"}),
     (
         "StartChildWorkflowExecutionInitiated",
         0,
         {"workflowId": "receipt-3", "workflowType": {"name": "receipt"}, "workflowTaskCompletedEventId": "4"},
     ),
-    ("ChildWorkflowExecutionStarted", 0.25, {"initiatedEventId": "9", "workflowExecution": {"workflowId": "receipt-3"}}),
+    ("ChildWorkflowExecutionStarted", 0.25, {"initiatedEventId": "9", "workflowExecution": {"workflowId": "receipt-3", "runId": "beef"}}),
     *task(1),
     (
         "WorkflowExecutionUpdateAccepted",
@@ -221,16 +228,16 @@ workflow id cart-3, run id c0ffee, Task Queue carts, no parent
 Running
   told WorkflowExecutionStarted cart (event 1) 2024-05-01T10:00:00.000Z, attempt 1
 task 1: WorkflowTaskCompleted (event 4) 2024-05-01T10:00:00.000Z
-  gives MarkerRecorded core_patch (event 5) 2024-05-01T10:00:00.000Z
+  gives MarkerRecorded patch fix-tax (event 5) 2024-05-01T10:00:00.000Z
       patch-data {"id":"fix-tax","deprecated":false}
   gives UpsertWorkflowSearchAttributes (event 6) 2024-05-01T10:00:00.000Z
       CustomerId "c-7"
-  gives MarkerRecorded core_local_activity (event 7) 2024-05-01T10:00:00.000Z
-      data {"activity_type":"price"}
+  gives MarkerRecorded local activity price (event 7) 2024-05-01T10:00:00.000Z, attempt 2
+      data {"activity_type":"price","attempt":2}
       result 12
   gives TimerStarted 1 (event 8) 2024-05-01T10:00:00.000Z, not ended, 14 d
   gives StartChildWorkflowExecutionInitiated receipt-3 receipt (event 9) 2024-05-01T10:00:00.000Z, started (event 10), not ended
-  told ChildWorkflowExecutionStarted receipt-3 receipt (event 10) 2024-05-01T10:00:00.250Z, opened (event 9), waited 0.2 s
+  told ChildWorkflowExecutionStarted receipt-3 receipt (event 10) 2024-05-01T10:00:00.250Z, opened (event 9), waited 0.2 s, run id beef
 task 2: WorkflowTaskCompleted (event 13) 2024-05-01T10:00:01.000Z
   gives WorkflowExecutionUpdateAccepted u-1 addItem (event 14) 2024-05-01T10:00:01.000Z
       {"sku":"a-1"}
@@ -258,6 +265,13 @@ TYPESCRIPT_WAITS = """{"waits":"timer","id":"1","opened":8,"since":"2024-05-01T1
 {"sum":"activity","type":"sendReceipt","times":1,"failed":0,"open":1}
 """
 
+# What its markers record, and the run of its child.
+TYPESCRIPT_DETAILS = [
+    '"marker":{"kind":"patch","name":"fix-tax"},"recorded":',
+    '"marker":{"kind":"localActivity","name":"price","attempt":2},"recorded":',
+    '"childRunId":"beef","recorded":',
+]
+
 # A run in Java that goes on in another one, and one in Python whose workflow task was failed.
 JAVA = history(
     (
@@ -275,7 +289,7 @@ JAVA = history(
     *task(0),
     ("MarkerRecorded", 0, marker("Version", 4, changeId="billing", version=1)),
     ("MarkerRecorded", 0, marker("SideEffect", 4, data="seed")),
-    ("MarkerRecorded", 0, marker("LocalActivity", 4, activityId="la-1", type="Rate", result=3)),
+    ("MarkerRecorded", 0, marker("LocalActivity", 4, activityId="la-1", type="Rate", result=3, meta={"atpt": 3})),
     (
         "WorkflowPropertiesModified",
         0,
@@ -312,13 +326,14 @@ workflow id subscription-5, run id run-2, Task Queue subscriptions, no parent, g
 ContinuedAsNew (event 15) 2024-05-01T10:00:11.000Z, after 11 s, goes on in run run-3
   told WorkflowExecutionStarted Subscription (event 1) 2024-05-01T10:00:00.000Z, attempt 1
 task 1: WorkflowTaskCompleted (event 4) 2024-05-01T10:00:00.000Z
-  gives MarkerRecorded Version (event 5) 2024-05-01T10:00:00.000Z
+  gives MarkerRecorded version billing 1 (event 5) 2024-05-01T10:00:00.000Z
       changeId "billing"
       version 1
-  gives MarkerRecorded SideEffect (event 6) 2024-05-01T10:00:00.000Z
+  gives MarkerRecorded side effect (event 6) 2024-05-01T10:00:00.000Z
       data "seed"
-  gives MarkerRecorded LocalActivity (event 7) 2024-05-01T10:00:00.000Z
+  gives MarkerRecorded local activity Rate (event 7) 2024-05-01T10:00:00.000Z, attempt 3
       activityId "la-1"
+      meta {"atpt":3}
       result 3
       type "Rate"
   gives WorkflowPropertiesModified (event 8) 2024-05-01T10:00:00.000Z
@@ -381,6 +396,41 @@ def activity(opened, kind, scheduled, closed=None, end="Completed"):
     return [*events, (f"ActivityTask{end}", closed, {"scheduledEventId": str(opened)})]
 
 
+# Markers with payloads in shorthand: a mutable side effect, a patch that is deprecated, and a version without its change. Then a
+# local activity whose type is bytes.
+ODD = history(
+    ("WorkflowExecutionStarted", 0, {"workflowType": {"name": "Odd"}}),
+    *task(0),
+    ("MarkerRecorded", 0, {"markerName": "MutableSideEffect", "details": {"side-effect-id": ["rate"], "data": [7]}}),
+    ("MarkerRecorded", 0, {"markerName": "core_patch", "details": {"patch-data": [{"id": "old-tax", "deprecated": True}]}}),
+    ("MarkerRecorded", 0, {"markerName": "Version", "details": {"version": [1]}}),
+    ("MarkerRecorded", 0, {"markerName": "LocalActivity", "details": {"type": payload(b"\x00\xff", "binary/encrypted")}}),
+)
+ODD_TEXT = """Odd: 8 events, 1 tasks completed, 4 things
+workflow id not recorded, run id not recorded, Task Queue not recorded, no parent
+Running
+  told WorkflowExecutionStarted Odd (event 1) 2024-05-01T10:00:00.000Z
+task 1: WorkflowTaskCompleted (event 4) 2024-05-01T10:00:00.000Z
+  gives MarkerRecorded mutable side effect rate (event 5) 2024-05-01T10:00:00.000Z
+      data 7
+      side-effect-id "rate"
+  gives MarkerRecorded patch old-tax (event 6) 2024-05-01T10:00:00.000Z, deprecated
+      patch-data {"deprecated":true,"id":"old-tax"}
+  gives MarkerRecorded Version (event 7) 2024-05-01T10:00:00.000Z, shorthand payload
+      version 1
+  gives MarkerRecorded local activity (event 8) 2024-05-01T10:00:00.000Z
+      type binary/encrypted, 2 bytes
+can't be replayed here: MarkerRecorded MutableSideEffect, 1 events, first (event 5)
+can't be replayed here: MarkerRecorded core_patch, 1 events, first (event 6)
+can't be replayed here: MarkerRecorded LocalActivity, 1 events, first (event 8)
+running; no activity, timer, child workflow, request or workflow task is open
+"""
+ODD_DETAILS = [
+    '"marker":{"kind":"mutableSideEffect","name":"rate"},"recorded":',
+    '"marker":{"kind":"patch","name":"old-tax","deprecated":true},"recorded":',
+    '"marker":{"kind":"localActivity"},"recorded":',
+]
+
 # Four cards of which the third took an hour and failed, one that is not charged yet, and two letters of 80 and 300 ms.
 CARDS = history(
     ("WorkflowExecutionStarted", 0, {"workflowType": {"name": "Batch"}}),
@@ -401,9 +451,70 @@ CARDS_OBJECTS = """{"sum":"activity","type":"ChargeCard","times":5,"failed":1,"o
 """
 
 
+def poller(times):
+    """A run that asks so many times, a minute apart, whether something is shipped: the last answer is yes."""
+    events = [("WorkflowExecutionStarted", 0, {"workflowType": {"name": "Poller"}}), *task(0)]
+    for turn in range(times):
+        asked, opened, is_last = 60 * turn, len(events) + 1, turn + 1 == times
+        given = {"activityId": str(opened), "activityType": {"name": "IsShipped"}, "workflowTaskCompletedEventId": str(opened - 1)}
+        ended = {"scheduledEventId": str(opened), "startedEventId": str(opened + 1), "result": payloads(is_last)}
+        events += [
+            ("ActivityTaskScheduled", asked, given),
+            ("ActivityTaskStarted", asked, {"scheduledEventId": str(opened), "attempt": 1}),
+            ("ActivityTaskCompleted", asked + 1, ended),
+            *task(asked + 1),
+        ]
+        if not is_last:
+            waits = {"timerId": str(opened + 6), "startToFireTimeout": "59s", "workflowTaskCompletedEventId": str(opened + 5)}
+            fired = {"timerId": str(opened + 6), "startedEventId": str(opened + 6)}
+            events += [("TimerStarted", asked + 1, waits), ("TimerFired", asked + 60, fired), *task(asked + 60)]
+    end = {"workflowTaskCompletedEventId": str(len(events))}
+    return history(*events, ("WorkflowExecutionCompleted", 60 * times - 59, end))
+
+
+POLLER = poller(36)
+POLLER_TEXT = """Poller: 396 events, 72 tasks completed, 71 things
+workflow id not recorded, run id not recorded, Task Queue not recorded, no parent
+Completed (event 396) 2024-05-01T10:35:01.000Z, after 35 min 1 s
+  told WorkflowExecutionStarted Poller (event 1) 2024-05-01T10:00:00.000Z
+task 1: WorkflowTaskCompleted (event 4) 2024-05-01T10:00:00.000Z
+  gives ActivityTaskScheduled 5 IsShipped (event 5) 2024-05-01T10:00:00.000Z, started (event 6), ended (event 7)
+  has ActivityTaskStarted 5 IsShipped (event 6) 2024-05-01T10:00:00.000Z, opened (event 5), waited 0 ms, attempt 1
+  told ActivityTaskCompleted 5 IsShipped (event 7) 2024-05-01T10:00:01.000Z, opened (event 5), took 1.0 s
+      false
+task 2: WorkflowTaskCompleted (event 10) 2024-05-01T10:00:01.000Z
+  gives TimerStarted 11 (event 11) 2024-05-01T10:00:01.000Z, ended (event 12), 59 s
+  told TimerFired 11 (event 12) 2024-05-01T10:01:00.000Z, opened (event 11), took 59 s
+task 3: WorkflowTaskCompleted (event 15) 2024-05-01T10:01:00.000Z
+  gives ActivityTaskScheduled 16 IsShipped (event 16) 2024-05-01T10:01:00.000Z, started (event 17), ended (event 18)
+68 more tasks, up to task 71 (event 390), repeat tasks before them but for ids, numbers, times and values: 374 events, which --all shows
+  has ActivityTaskStarted 390 IsShipped (event 391) 2024-05-01T10:35:00.000Z, opened (event 390), waited 0 ms, attempt 1
+  told ActivityTaskCompleted 390 IsShipped (event 392) 2024-05-01T10:35:01.000Z, opened (event 390), took 1.0 s
+      true
+task 72: WorkflowTaskCompleted (event 395) 2024-05-01T10:35:01.000Z
+  gives WorkflowExecutionCompleted (event 396) 2024-05-01T10:35:01.000Z
+activity IsShipped: 36 times, median 1.0 s, longest 1.0 s (event 5)
+timer: 35 times, median 59 s, longest 59 s (event 11)
+"""
+# Its first poll fails, and is unlike the others, of which the second is shown too.
+POLLER_AMISS = POLLER.replace(b"EVENT_TYPE_ACTIVITY_TASK_COMPLETED", b"EVENT_TYPE_ACTIVITY_TASK_FAILED", 1)
+POLLER_AMISS = POLLER_AMISS.replace(b"activityTaskCompletedEventAttributes", b"activityTaskFailedEventAttributes", 1)
+AMISS_LINES = "*told ActivityTaskFailed 5 *told ActivityTaskCompleted 16 *\n67 more tasks, up to task 71 (event 390), *: 368 events, *"
+
+
 def sdk_runs(room):
-    """Each run, as text; what an open one waits for, the tasks around an event that is not there, and what things come to."""
-    files = {"go.json": GO, "typescript.json": TYPESCRIPT, "java.json": JAVA, "python.json": PYTHON, "cards.json": CARDS}
+    """Each run, as text; what markers record, what an open run waits for, the tasks around an event that is not there, and what
+    things come to."""
+    files = {
+        "go.json": GO,
+        "typescript.json": TYPESCRIPT,
+        "java.json": JAVA,
+        "python.json": PYTHON,
+        "odd.json": ODD,
+        "cards.json": CARDS,
+        "poller.json": POLLER,
+        "amiss.json": POLLER_AMISS,
+    }
     folder = room.folder(files)
     show = ["explain", "--recorded"]
     return [
@@ -411,6 +522,10 @@ def sdk_runs(room):
         ([*show, f"{folder}/typescript.json"], 0, TYPESCRIPT_TEXT, ""),
         ([*show, f"{folder}/java.json"], 0, JAVA_TEXT, ""),
         ([*show, f"{folder}/python.json"], 0, PYTHON_TEXT, ""),
+        ([*show, f"{folder}/odd.json"], 0, ODD_TEXT, ""),
+        ([*show, "--json", f"{folder}/go.json"], 0, Like(f"*{'*'.join(GO_MARKERS)}*"), ""),
+        ([*show, "--json", f"{folder}/typescript.json"], 0, Like(f"*{'*'.join(TYPESCRIPT_DETAILS)}*"), ""),
+        ([*show, "--json", f"{folder}/odd.json"], 0, Like(f"*{'*'.join(ODD_DETAILS)}*"), ""),
         ([*show, "--json", "--last", "1", f"{folder}/typescript.json"], 0, Like(f"*{TYPESCRIPT_WAITS}"), ""),
         ([*show, "--json", "--last", "1", f"{folder}/go.json"], 0, Like(f"{GO_RUN}*"), ""),
         ([*show, "--around", "999", f"{folder}/python.json"], 0, PYTHON_AROUND, ""),
@@ -418,4 +533,9 @@ def sdk_runs(room):
         ([*show, f"{folder}/cards.json"], 0, Like(f"*{CARDS_SUMS}"), ""),
         ([*show, "--last", "1", f"{folder}/cards.json"], 0, Like(f"*{CARDS_SUMS}"), ""),
         ([*show, "--json", f"{folder}/cards.json"], 0, Like(f"*{CARDS_OBJECTS}"), ""),
+        ([*show, f"{folder}/poller.json"], 0, POLLER_TEXT, ""),
+        (["explain", f"{folder}/poller.json"], 1, Like(f"*{POLLER_TEXT}"), ""),
+        ([*show, "--all", f"{folder}/poller.json"], 0, Like("*\ntask 4: *\ntask 71: *"), ""),
+        ([*show, "--json", f"{folder}/poller.json"], 0, Like('*{"place":200,*{"place":390,*'), ""),
+        ([*show, f"{folder}/amiss.json"], 0, Like(AMISS_LINES), ""),
     ]
