@@ -122,7 +122,7 @@ class Relay(Program):
 
 
 class Order(Program):
-    """An order, by the table above `Order` in crates/order/src/lib.rt."""
+    """An order, by the table above `Order` in crates/order/src/workflow.rt."""
 
     known, signals, state, parcel = "status", ("cancel",), "charging", "parcel"
 

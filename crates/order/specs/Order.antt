@@ -10,8 +10,8 @@ use Rattle.wh_workflow.specs.declared.job.Job.TheVariants.{Start, Signal, Activi
 use Rattle.wh_workflow.specs.Law.{Program, IsAnswer, IsLawful}
 use Rattle.wh_workflow.specs.Answering.{none_is_answer, one_is_answer, two_are_answer, either_is_answer}
 use Rattle.order.specs.Naming.{parcel_id}
-use Rattle.order.specs.declared.OrderState.{OrderState}
-use Rattle.order.specs.declared.OrderState.TheVariants.{Charging, Held, Shipping, Closed}
+use Rattle.order.specs.declared.workflow.OrderState.{OrderState}
+use Rattle.order.specs.declared.workflow.OrderState.TheVariants.{Charging, Held, Shipping, Closed}
 
 -- the commands of an order in the state `Charging` for a job
 abbrev pub charging_gives : Job → List Command

@@ -5,8 +5,8 @@ use Rattle.wh_author_tools.specs.Values.{payload_written}
 use Rattle.wh_workflow.specs.Definitions.{Definitions}
 use Rattle.wh_workflow.specs.Queries.{Queries, unknown_query}
 use Rattle.wh_workflow.specs.declared.queryable.QueryResult.TheVariants.{Answered}
-use Rattle.order.specs.declared.OrderState.{OrderState}
-use Rattle.order.specs.declared.OrderState.TheVariants.{Charging, Held, Shipping, Closed}
+use Rattle.order.specs.declared.workflow.OrderState.{OrderState}
+use Rattle.order.specs.declared.workflow.OrderState.TheVariants.{Charging, Held, Shipping, Closed}
 
 -- the name of the order's state
 abbrev pub status : OrderState → List ℕ

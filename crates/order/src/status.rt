@@ -2,7 +2,7 @@
 ghost use Rattle.std.specs.Prelude.{◌≡◌};
 ghost use Rattle.order.specs.Status.{status};
 
-use crate::{Order, OrderState};
+use crate::workflow::{Order, OrderState};
 use std::alloc::Global;
 use wh_author_tools::{one_payload, text_payload};
 use wh_events::{OutOfMemory, Payload};

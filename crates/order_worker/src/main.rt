@@ -2,8 +2,7 @@
 //! ones, or, without a word, six orders in memory.
 #![tactic(auto)]
 
-use order::Order;
-use order_host::{Activities, Till, has_arguments, serve_from_memory};
+use order::{Activities, Order, Till, has_arguments, serve_from_memory};
 use row_samples::AllButOrder;
 use std::process::ExitCode;
 use std::{env, thread};

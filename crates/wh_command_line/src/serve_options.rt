@@ -27,22 +27,6 @@ pub struct ServeOptions {
 }
 
 impl ServeOptions {
-    /// Returns options with these numbers, which must be within their limits.
-    pub fn new(workers: u64, cache: u64, cache_events: u64, slots: u64) -> ServeOptions
-        requires { AreWithinLimits workers cache cache_events slots }
-        ensures workers { result.workers ≡ workers }
-        ensures cache { result.cache ≡ cache }
-        ensures cache_events { result.cache_events ≡ cache_events }
-        ensures slots { result.slots ≡ slots }
-    {
-        ServeOptions {
-            workers,
-            cache,
-            cache_events,
-            slots,
-        }
-    }
-
     /// Returns the options that a subcommand is given.
     pub(crate) fn from_matches(
         alloc: Global,

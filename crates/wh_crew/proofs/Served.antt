@@ -7,8 +7,8 @@ use Rattle.std.proofs.lemmas.List.Sums.{sum_by-cons}
 use Rattle.wh_client.specs.declared.options.TaskQueueKind.{TaskQueueKind}
 use Rattle.wh_client.specs.declared.options.LiveOptions.{LiveOptions}
 use Rattle.wh_slots.specs.declared.sizes.Config.{Config}
-use Rattle.wh_ledger.specs.Shares.{no_shares}
-use Rattle.wh_ledger.specs.declared.Shares.{Shares}
+use Rattle.wh_host.specs.Shares.{no_shares}
+use Rattle.wh_host.specs.declared.ledger.Shares.{Shares}
 use Rattle.wh_live.specs.Deliveries.{ComesFrom, LiveView, fresh}
 use Rattle.wh_commands.specs.declared.names.WorkerNames.{WorkerNames}
 use Rattle.wh_notes.specs.Notes.{counts_of}

@@ -4,8 +4,8 @@ use Rattle.std.specs.Prelude.{replicate, zero, sum_by}
 use Rattle.std.proofs.lemmas.List.{length-replicate}
 use Rattle.std.proofs.lemmas.List.Sums.{sum_by-append}
 use Rattle.std.proofs.lemmas.List.Folds.{sum_by-replicate}
-use Rattle.wh_ledger.specs.declared.Shares.{Shares}
-use Rattle.wh_ledger.specs.Shares.{no_shares, shares_of, sums_of}
+use Rattle.wh_host.specs.declared.ledger.Shares.{Shares}
+use Rattle.wh_host.specs.Shares.{no_shares, shares_of, sums_of}
 
 -- the beginning of a list that has the same at each place has it too
 pub first_part : {A : Type 0} (z : A) (xs ys : List A) (count : ℕ) → replicate count z ≡ xs ++ ys → xs ≡ replicate (length xs) z

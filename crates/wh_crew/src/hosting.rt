@@ -15,9 +15,9 @@ use std::thread::Threads;
 use std::time::Clock;
 use wh_client::{Client, Connection};
 use wh_host::{
-    Companion, Config, EndSignal, Host, OpenFault, accompany, put_spare, take_spare, with_spare,
+    Companion, Config, EndSignal, Host, OpenFault, Seat, accompany, put_spare, take_spare,
+    with_spare,
 };
-use wh_ledger::Seat;
 use wh_live_queries::{QueryQueue, answer_queries};
 use wh_poll::{
     ActivityHandler, HostEnd, Observer, TaskSource, WorkerSetup, close_host, run_beside,

@@ -19,10 +19,10 @@ use Rattle.wh_events.specs.declared.key.RunKey.{RunKey}
 use Rattle.wh_events.specs.Keys.{same_key}
 use Rattle.wh_workflow.specs.Law.{Program}
 use Rattle.wh_replay.specs.Runs.{Held as HeldRun, history_of, IsReplayed}
-use Rattle.wh_cache.specs.Cache.{CacheView, IsSound}
-use Rattle.wh_cache.proofs.Runs.{IsSound-remove, none_alike}
-use Rattle.wh_cache.proofs.Fitting.{Puts-keeps}
-use Rattle.wh_ledger.specs.declared.Shares.{Shares}
+use Rattle.wh_host.specs.Cache.{CacheView, IsSound}
+use Rattle.wh_host.proofs.Runs.{IsSound-remove, none_alike}
+use Rattle.wh_host.proofs.Fitting.{Puts-keeps}
+use Rattle.wh_host.specs.declared.ledger.Shares.{Shares}
 use Rattle.wh_host.specs.declared.state.Mark.{Mark}
 use Rattle.wh_host.specs.declared.reply.Outcome.{Outcome}
 use Rattle.wh_host.specs.declared.reply.Outcome.TheVariants.{Completed, Failed}

@@ -16,9 +16,9 @@ use Rattle.wh_events.specs.declared.key.RunKey.{RunKey}
 use Rattle.wh_events.specs.Keys.{same_key}
 use Rattle.wh_workflow.specs.Law.{Program}
 use Rattle.wh_replay.specs.Runs.{Held as HeldRun, history_of, IsReplayed}
-use Rattle.wh_cache.specs.Cache.{CacheView, cache_view, held_of, held_by, IsSound, Puts, PutReply, put_reply_of}
-use Rattle.wh_ledger.specs.declared.Shares.{Shares}
-use Rattle.wh_ledger.specs.Shares.{no_shares}
+use Rattle.wh_host.specs.Cache.{CacheView, cache_view, held_of, held_by, IsSound, Puts, PutReply, put_reply_of}
+use Rattle.wh_host.specs.declared.ledger.Shares.{Shares}
+use Rattle.wh_host.specs.Shares.{no_shares}
 use Rattle.wh_slots.specs.Sizes.{IsConfig}
 use Rattle.wh_slots.specs.declared.sizes.Config.{Config}
 use Rattle.wh_host.specs.declared.reply.Totals.{Totals}

@@ -3,10 +3,10 @@
 ghost use Rattle.std.specs.Prelude.{◌≡◌, is_some};
 
 use crate::end_signal::EndSignal;
+use crate::ledger::Seat;
 use crate::{Counts, Host};
 use std::sync::Wait;
 use std::sync::ledger::Ledger;
-use wh_ledger::Seat;
 use wh_workflow::Workflow;
 
 /// Observes a host while its workers run, in a thread beside them. It decides when it needs the

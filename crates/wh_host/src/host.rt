@@ -2,17 +2,17 @@
 ghost use Rattle.std.specs.Prelude.{◌≡◌, ◌<◌, ◌+◌, ◌↔◌, IfOk, IfErr, IsErr, Err, vec_len};
 ghost use Rattle.std.specs.Prelude.{replicate};
 ghost use Rattle.std.specs.Sync.Mutex.{mutex_guard_value};
-ghost use Rattle.wh_ledger.specs.Shares.{no_shares, sums_of};
+ghost use Rattle.wh_host.specs.Shares.{no_shares, sums_of};
 ghost use Rattle.wh_slots.specs.Sizes.{IsConfig};
 ghost use Rattle.wh_host.specs.Machine.{IsBlankOf, IsHost, totals_of};
 
+use crate::ledger::{Seat, SeatsMissing};
 use crate::open_fault::OpenFault;
 use crate::reply::Totals;
 use crate::state::HostState;
 use std::alloc::Global;
 use std::sync::ledger::{Blank, Ledger};
 use std::sync::{Mutex, MutexGuard, Wait};
-use wh_ledger::{Seat, SeatsMissing};
 use wh_slots::Config;
 use wh_workflow::Workflow;
 

@@ -3,8 +3,8 @@
 ghost use Rattle.std.specs.Prelude.{Some};
 ghost use Rattle.wh_host.specs.Texts.{totals_text};
 
+use crate::cache::Put;
 use std::fmt;
-use wh_cache::Put;
 use wh_replay::Run;
 use wh_slots::SlotCount;
 use wh_workflow::Workflow;

@@ -4,8 +4,8 @@ ghost use Rattle.std.specs.Prelude.{◌≡◌, ◌≤◌, ◌<◌, ◌+◌, ◌+
 ghost use Rattle.wh_slots.specs.Sizes.{IsConfig};
 ghost use Rattle.wh_host.specs.Spares.{spare_seats, with_spare};
 
+use crate::ledger::Seat;
 use std::sync::ledger::Ledger;
-use wh_ledger::Seat;
 use wh_slots::{Config, MOST_SEATS};
 
 /// Returns the sizes of a host with one seat more, if `is_wanted` is set, there is a seat, and a

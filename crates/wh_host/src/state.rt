@@ -6,8 +6,8 @@ ghost use Rattle.std.specs.Prelude.{option_map, slice_get, replicate, IsTrue, If
 ghost use Rattle.std.specs.Prelude.{IsErr, Err, MatchOption, MatchResult, vec_len};
 ghost use Rattle.std.specs.Map.{lookup, lookup_entry, remove_entry};
 ghost use Rattle.wh_events.specs.Keys.{same_key};
-ghost use Rattle.wh_cache.specs.Cache.{cache_view, held_of, Puts, put_reply_of};
-ghost use Rattle.wh_ledger.specs.Shares.{no_shares, sums_of, IsWithin};
+ghost use Rattle.wh_host.specs.Cache.{cache_view, held_of, Puts, put_reply_of};
+ghost use Rattle.wh_host.specs.Shares.{no_shares, sums_of, IsWithin};
 ghost use Rattle.wh_slots.specs.Table.{table};
 ghost use Rattle.wh_slots.specs.declared.Place.TheVariants.{Free};
 ghost use Rattle.wh_slots.specs.declared.SlotKind.{SlotKind};
@@ -18,14 +18,14 @@ ghost use Rattle.wh_host.specs.Machine.{has_key, has_mark, is_marked_at, Reserve
 ghost use Rattle.wh_host.specs.Machine.{UseWorkflow, UseActivity, GiveRun, EvictRun, Finish, Drain};
 ghost use Rattle.wh_host.specs.Machine.{ReadCounts};
 
+use crate::cache::{Put, Sticky};
+use crate::ledger::{Books, Seat, SeatsMissing};
 use crate::open_fault::OpenFault;
 use crate::reply::{Counts, Evict, Given, Outcome, Totals};
 use std::alloc::Global;
 use std::marker::Model;
 use std::sync::ledger::{Blank, Ledger};
-use wh_cache::{Put, Sticky};
 use wh_events::{OutOfMemory, RunKey};
-use wh_ledger::{Books, Seat, SeatsMissing};
 use wh_replay::{ReplayedHistory, Run};
 use wh_slots::{
     Config, Held, NotHeld, NotReserved, Permit, ReserveFault, SlotKind, Slots, TaskName, UseFault,

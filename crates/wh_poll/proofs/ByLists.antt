@@ -1,7 +1,7 @@
 -- What workers without observers return.
 use Rattle.std.proofs.Common.{◌≡◌, ℕ, ◌+◌, ◌≤◌, List, [], ◌∷◌, length, map, Option, refl, sym, ap, ◌∙◌, subst, arith}
 use Rattle.std.specs.List.{AllZip}
-use Rattle.wh_ledger.specs.declared.Shares.{Shares}
+use Rattle.wh_host.specs.declared.ledger.Shares.{Shares}
 use Rattle.wh_workflow.specs.Law.{Program}
 use Rattle.wh_tasks.specs.declared.source.SourceFault.{SourceFault}
 use Rattle.wh_tasks.specs.Source.{Answers, Answerable, Delivers, MayFetch, KeepsOrigin, RoseIfFailed}

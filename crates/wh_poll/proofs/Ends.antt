@@ -1,7 +1,7 @@
 -- What workers leave, by their seats and their setups.
 use Rattle.std.proofs.Common.{◌≡◌, ℕ, List, [], ◌∷◌, map, refl, sym, ap, ◌∙◌, subst}
 use Rattle.std.specs.List.{AllZip, zip}
-use Rattle.wh_ledger.specs.declared.Shares.{Shares}
+use Rattle.wh_host.specs.declared.ledger.Shares.{Shares}
 use Rattle.wh_workflow.specs.Law.{Program}
 use Rattle.wh_tasks.specs.Source.{Answers, Answerable, Delivers, MayFetch}
 use Rattle.wh_poll.specs.declared.setup.WorkerSetup.{WorkerSetup}

@@ -4,7 +4,7 @@ use Rattle.std.specs.Prelude.{IfSome, option_map}
 use Rattle.std.specs.Map.{lookup_entry}
 use Rattle.wh_events.specs.declared.key.RunKey.{RunKey}
 use Rattle.wh_events.specs.Keys.{same_key, same_key-true}
-use Rattle.wh_cache.specs.Cache.{Entry, held_of}
+use Rattle.wh_host.specs.Cache.{Entry, held_of}
 
 pub lookup-own : (key : RunKey) (runs : List Entry) → IfSome (option_map held_of (lookup_entry (same_key key) runs)) (λ run. run.key ≡ key)
 lookup-own key [] = tt

@@ -13,7 +13,7 @@ use Rattle.wh_tasks.specs.declared.source.SourceFault.{SourceFault}
 use Rattle.wh_tasks.specs.declared.task.StepFault.{StepFault}
 use Rattle.wh_tasks.specs.declared.task.StepFault.TheVariants.{Source, OutOfMemory}
 use Rattle.wh_tasks.specs.declared.source.SourceFault.TheVariants.{Source as Failing, OutOfMemory as Unfed}
-use Rattle.wh_ledger.specs.declared.Shares.{Shares}
+use Rattle.wh_host.specs.declared.ledger.Shares.{Shares}
 use Rattle.wh_host.specs.declared.reply.Outcome.TheVariants.{Failed}
 use Rattle.wh_poll.specs.declared.answer.Reply.{Reply}
 use Rattle.wh_poll.specs.declared.serve.Served.{Served}

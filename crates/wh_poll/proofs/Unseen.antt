@@ -22,7 +22,7 @@ use Rattle.wh_slots.specs.declared.SlotKind.{SlotKind}
 use Rattle.wh_slots.specs.declared.SlotKind.TheVariants.{Workflow, Activity}
 use Rattle.wh_slots.specs.declared.ReserveFault.{ReserveFault}
 use Rattle.wh_slots.specs.declared.NotReserved.{NotReserved}
-use Rattle.wh_cache.specs.Cache.{Entry, CacheView, entry_of, held_of, Enters, PutReply, IsKept, HasPushedOut, IsOff, IsShort, IsLarge, HasNoMemory, Puts}
+use Rattle.wh_host.specs.Cache.{Entry, CacheView, entry_of, held_of, Enters, PutReply, IsKept, HasPushedOut, IsOff, IsShort, IsLarge, HasNoMemory, Puts}
 use Rattle.wh_host.specs.declared.reply.Outcome.{Outcome}
 use Rattle.wh_host.specs.Machine.{Claim, HostView, Call, Reserve, Release, UseWorkflow, UseActivity, GiveRun, EvictRun, Finish, Drain, ReadCounts, IsPut, IsMarked, IsNotHeld, step, reserve_step, release_step, give_step, finishes}
 use Rattle.wh_host.specs.Machine.{GiveReply}

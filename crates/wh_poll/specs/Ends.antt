@@ -3,8 +3,8 @@ use Rattle.std.specs.Prelude.{◌≡◌, ℕ, ◌+◌, ◌≤◌, List, length, 
 use Rattle.std.specs.List.{AllZip, zip}
 use Rattle.std.specs.declared.alloc.Global.{Global}
 use Rattle.wh_workflow.specs.Law.{Program}
-use Rattle.wh_ledger.specs.declared.Shares.{Shares}
-use Rattle.wh_ledger.specs.Shares.{no_shares, sums_of}
+use Rattle.wh_host.specs.declared.ledger.Shares.{Shares}
+use Rattle.wh_host.specs.Shares.{no_shares, sums_of}
 use Rattle.wh_slots.specs.declared.sizes.Config.{Config}
 use Rattle.wh_host.specs.Machine.{totals_of}
 use Rattle.wh_tasks.specs.Source.{Answers, Answerable, Delivers, MayFetch, KeepsSource, RoseIfFailed, SameMay}

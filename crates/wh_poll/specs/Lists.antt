@@ -1,7 +1,7 @@
 -- What workers without observers return, alone and in lists.
 use Rattle.std.specs.Prelude.{◌≡◌, ℕ, ◌+◌, ◌≤◌, List, [], ◌∷◌, Option}
 use Rattle.wh_workflow.specs.Law.{Program}
-use Rattle.wh_ledger.specs.declared.Shares.{Shares}
+use Rattle.wh_host.specs.declared.ledger.Shares.{Shares}
 use Rattle.wh_tasks.specs.declared.source.SourceFault.{SourceFault}
 use Rattle.wh_tasks.specs.Source.{Answers, Answerable, Delivers, MayFetch, RoseIfFailed}
 use Rattle.wh_poll.specs.declared.lists.Worker.{Worker}

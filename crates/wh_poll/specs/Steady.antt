@@ -8,7 +8,7 @@ use Rattle.wh_replay.specs.declared.run.Answer.{Answer}
 use Rattle.wh_replay.specs.Replays.{ends_in_task}
 use Rattle.wh_replay.specs.Runs.{Held}
 use Rattle.wh_slots.specs.declared.TaskName.{TaskName}
-use Rattle.wh_cache.specs.Cache.{Entry, entry_of}
+use Rattle.wh_host.specs.Cache.{Entry, entry_of}
 use Rattle.wh_host.specs.Machine.{Claim, HostView, Call, UseWorkflow, GiveRun, opening, step}
 use Rattle.wh_host.specs.Machine.{GiveReply}
 use Rattle.wh_tasks.specs.Tasks.{Steps, IsAnswer, answer_to}

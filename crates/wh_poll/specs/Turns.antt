@@ -2,7 +2,7 @@
 use Rattle.std.specs.Prelude.{◌≡◌, ◌⊎◌, ℕ, ◌<◌, true, false, List, [], ◌∷◌, length, None, Result}
 use Rattle.wh_workflow.specs.Law.{Program}
 use Rattle.wh_slots.specs.declared.SlotKind.{SlotKind}
-use Rattle.wh_ledger.specs.declared.Shares.{Shares}
+use Rattle.wh_host.specs.declared.ledger.Shares.{Shares}
 use Rattle.wh_tasks.specs.declared.source.SourceFault.{SourceFault}
 use Rattle.wh_tasks.specs.Source.{Answers, Answerable, Delivers, MayFetch, FailsOnly, KeepsSource, SameMay}
 use Rattle.wh_poll.specs.declared.serve.Served.{Served}

@@ -1,7 +1,7 @@
 //! Workers on an open host, and a host that is opened, run and closed in one call.
 ghost use Rattle.std.specs.Prelude.{◌≡◌, ◌+◌, ◌↔◌, IfOk, Err, map, vec_capacity, vec_len};
 ghost use denote.Param.Send.{IsSend};
-ghost use Rattle.wh_ledger.specs.Shares.{sums_of};
+ghost use Rattle.wh_host.specs.Shares.{sums_of};
 ghost use Rattle.wh_host.specs.Machine.{totals_of};
 ghost use Rattle.wh_slots.specs.Sizes.{IsConfig};
 ghost use Rattle.wh_poll.specs.Ends.{AreEnds, IsHostEnd};
@@ -17,8 +17,7 @@ use std::sync::ledger::{Blank, Ledger};
 use std::thread;
 use std::thread::Threads;
 use wh_events::OutOfMemory;
-use wh_host::{Config, EndSignal, Host, OpenFault, Totals};
-use wh_ledger::Seat;
+use wh_host::{Config, EndSignal, Host, OpenFault, Seat, Totals};
 use wh_tasks::{ActivityHandler, TaskSource};
 use wh_workflow::Workflow;
 

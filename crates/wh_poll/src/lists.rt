@@ -14,8 +14,7 @@ use std::sync::Wait;
 use std::sync::ledger::Ledger;
 use std::thread::Threads;
 use wh_events::OutOfMemory;
-use wh_host::Host;
-use wh_ledger::Seat;
+use wh_host::{Host, Seat};
 use wh_tasks::{ActivityHandler, SourceFault, TaskSource};
 use wh_workflow::Workflow;
 

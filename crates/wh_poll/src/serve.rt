@@ -15,8 +15,7 @@ use crate::answer::{Answered, Reply, answer_by_handler, answer_by_replay};
 use std::alloc::Global;
 use std::sync::Wait;
 use std::sync::ledger::Ledger;
-use wh_host::{Host, Outcome};
-use wh_ledger::Seat;
+use wh_host::{Host, Outcome, Seat};
 use wh_replay::Run;
 use wh_slots::{Held, Permit, ReserveFault, SlotKind, TaskName};
 use wh_tasks::{

@@ -1,6 +1,6 @@
 //! What a worker starts with, and what it leaves.
 
-use wh_ledger::Shares;
+use wh_host::Shares;
 use wh_tasks::SourceFault;
 
 /// What a worker starts with, beside its seat.

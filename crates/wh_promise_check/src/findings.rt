@@ -9,8 +9,7 @@ use serde_json::Value;
 use std::alloc::Global;
 use wh_events::{Items, OutOfMemory, Text};
 use wh_json::field;
-use wh_or_memory::OrMemory;
-use wh_row_rules::{OwnedTable, PhraseFinding, PromiseFinding, PromiseFindings};
+use wh_row_rules::{OrMemory, OwnedTable, PhraseFinding, PromiseFinding, PromiseFindings};
 use wh_table_promises::{TablePromise, decide};
 use wh_table_text::{TableFault, TableReading, phrases_at};
 

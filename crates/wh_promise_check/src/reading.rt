@@ -7,8 +7,8 @@ ghost use Rattle.wh_promise_check.specs.Phrases.{at_most, only_after, never_afte
 
 use std::alloc::Global;
 use wh_events::{OutOfMemory, Text};
-use wh_or_memory::OrMemory;
 use wh_promise_phrases::{PhraseThing, PromisePhrase, phrase_in, thing_in};
+use wh_row_rules::OrMemory;
 use wh_rows::JobPattern;
 use wh_table_promises::{Happening, TablePromise};
 use wh_table_text::own_job_at;

@@ -2,3 +2,4 @@ pub mod Ending
 pub mod Texts
 pub mod Breaking
 pub mod Hearing
+pub mod Outcomes

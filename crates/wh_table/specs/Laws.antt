@@ -16,7 +16,7 @@ use Rattle.wh_rows.specs.declared.row.RowsState.{RowsState}
 use Rattle.wh_row_rules.specs.declared.owned.OwnedTable.{OwnedTable}
 use Rattle.wh_row_rules.specs.Broken.{broken, definition}
 use Rattle.wh_table_text.specs.declared.fault.TableFault.{TableFault}
-use Rattle.wh_or_memory.specs.Outcome.{faultless, ◌>>=◌}
+use Rattle.wh_row_rules.specs.Outcome.{faultless, ◌>>=◌}
 use Rattle.wh_table_text.specs.Reading.{table_of, shape_of, of_rows, rules_fault, or_not_json}
 use Rattle.wh_table_text.specs.Texts.{fault_text}
 use Rattle.wh_json.specs.Events.{document_within}

@@ -3,15 +3,14 @@ ghost use Rattle.std.specs.Prelude.{◌≡◌, [], IfOk, Err, Ok};
 ghost use Rattle.wh_workflow.specs.declared.job.Job.TheVariants as jobs;
 ghost use Rattle.wh_rows.specs.Rows.{initial};
 ghost use Rattle.wh_row_rules.specs.Broken.{definition};
-ghost use Rattle.wh_or_memory.specs.Outcome.{Gives};
+ghost use Rattle.wh_row_rules.specs.Outcome.{Gives};
 ghost use Rattle.wh_table.specs.Program.{front, tail, table_in, no_table, begun, failed, opened, opening};
 
 use crate::following::follow;
 use crate::state::TableState;
 use std::alloc::Global;
 use wh_events::{Items, OutOfMemory, Payload, Text};
-use wh_or_memory::OrMemory;
-use wh_row_rules::OwnedTable;
+use wh_row_rules::{OrMemory, OwnedTable};
 use wh_rows::{Naming, RowsState, StateName, UNCOUNTED};
 use wh_table_text::{TableFault, fault_text, read_table};
 use wh_workflow::{Command, Job, no_payloads, text_of};

@@ -9,7 +9,7 @@ use serde_json::Value;
 use std::alloc::{AllocError, Global};
 use wh_events::{OutOfMemory, Text};
 use wh_json::field;
-use wh_or_memory::OrMemory;
+use wh_row_rules::OrMemory;
 use wh_table_text::{TableFault, phrases_at};
 
 /// The most warnings that a table may allow.

@@ -11,7 +11,7 @@ use serde_json::Value;
 use std::alloc::Global;
 use wh_events::{OutOfMemory, Text};
 use wh_json::field;
-use wh_or_memory::OrMemory;
+use wh_row_rules::OrMemory;
 use wh_table_text::{TableFault, phrases_at, word};
 
 /// Returns the phrases of the counters of a table with this value; none without one.

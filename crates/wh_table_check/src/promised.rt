@@ -12,9 +12,8 @@ ghost use Rattle.wh_table_check.specs.Promised.{lack_finding, lack, lacks_text, 
 use crate::finding::TableFinding;
 use std::alloc::Global;
 use wh_events::{OutOfMemory, Text};
-use wh_or_memory::OrMemory;
 use wh_promise_phrases::{PhraseThing, PromisePhrase, phrase_in, thing_in};
-use wh_row_rules::{OwnedRow, PromiseFinding, PromiseFindings, are_apart, closes};
+use wh_row_rules::{OrMemory, OwnedRow, PromiseFinding, PromiseFindings, are_apart, closes};
 use wh_rows::{CommandTemplate, JobPattern};
 use wh_table_text::own_job_at;
 

@@ -4,9 +4,9 @@ use Rattle.std.specs.Prelude.{map}
 use Rattle.serde_json.specs.Data.{Data}
 use Rattle.serde_json.specs.View.{view}
 use Rattle.serde_json.specs.declared.value.Value.{Value}
-use Rattle.wh_or_memory.specs.declared.fault.OrMemory.{OrMemory}
-use Rattle.wh_or_memory.specs.Outcome.{all_of, StopsAt}
-use Rattle.wh_or_memory.proofs.Outcomes.{with_front, front_step, front_stops, from_place, none_left}
+use Rattle.wh_row_rules.specs.declared.or_memory.OrMemory.{OrMemory}
+use Rattle.wh_row_rules.specs.Outcome.{all_of, StopsAt}
+use Rattle.wh_row_rules.proofs.Outcomes.{with_front, front_step, front_stops, from_place, none_left}
 use Rattle.wh_rows.specs.Tables.{Row}
 use Rattle.wh_table_text.specs.declared.fault.TableFault.{TableFault}
 use Rattle.wh_table_text.specs.declared.counters.NamedCounter.{NamedCounter}

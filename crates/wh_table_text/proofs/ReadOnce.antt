@@ -10,7 +10,7 @@ use Rattle.wh_json.specs.declared.fault.ReadFault.{ReadFault}
 use Rattle.wh_json.specs.Events.{document_within}
 use Rattle.wh_row_rules.specs.declared.owned.OwnedTable.{OwnedTable}
 use Rattle.wh_table_text.specs.declared.fault.TableFault.{TableFault}
-use Rattle.wh_or_memory.specs.Outcome.{◌>>=◌, faultless}
+use Rattle.wh_row_rules.specs.Outcome.{◌>>=◌, faultless}
 use Rattle.wh_table_text.specs.Reading.{shape_of, table_from, table_of, or_not_json, rules_fault}
 use Rattle.wh_table_text.specs.Faults.{value_faults, document_faults, faults_of}
 use Rattle.wh_table_text.specs.TableReadings.{IsReading}

@@ -15,7 +15,7 @@ use Rattle.wh_table_text.specs.declared.fault.RowFault.TheVariants as rules
 use Rattle.wh_table_text.specs.declared.counters.NamedCounter.{NamedCounter}
 use Rattle.wh_table_text.specs.Counters.{bounds_of}
 use Rattle.wh_table_text.specs.Numbered.{numbered}
-use Rattle.wh_or_memory.specs.Outcome.{◌>>=◌, or_fault, passes, faultless, all_of}
+use Rattle.wh_row_rules.specs.Outcome.{◌>>=◌, or_fault, passes, faultless, all_of}
 use Rattle.wh_table_text.specs.Reading.{first_state, row_at, rows_from, rows_in, shape_of, table_from, table_of, or_not_json, of_rows, rules_fault}
 use Rattle.wh_table_text.specs.Faults.{fault_in, or_next, counters_in, few_rows, rows_listed, unread, unread_rows, shape_faults, breaks, by_first, rule_faults, value_faults, document_faults, FirstStopsReading}
 

@@ -7,7 +7,7 @@ use Rattle.wh_rows.specs.declared.row.Counters.{Counters}
 use Rattle.wh_table_text.specs.declared.fault.TableFault.{TableFault}
 use Rattle.wh_table_text.specs.declared.fault.TableFault.TheVariants as faults
 use Rattle.wh_table_text.specs.declared.counters.NamedCounter.{NamedCounter}
-use Rattle.wh_or_memory.specs.Outcome.{or_fault}
+use Rattle.wh_row_rules.specs.Outcome.{or_fault}
 use Rattle.wh_table_text.specs.Words.{Words, is_named}
 
 -- the counter at a place, of four

@@ -14,7 +14,7 @@ use Rattle.wh_table_text.specs.declared.fault.TableFault.TheVariants as faults
 use Rattle.wh_table_text.specs.declared.fault.RowFault.TheVariants as rules
 use Rattle.wh_table_text.specs.declared.counters.NamedCounter.{NamedCounter}
 use Rattle.wh_table_text.specs.Numbered.{numbered}
-use Rattle.wh_or_memory.specs.Outcome.{◌>>=◌, or_fault, passes}
+use Rattle.wh_row_rules.specs.Outcome.{◌>>=◌, or_fault, passes}
 use Rattle.wh_table_text.specs.Reading.{counters_at, is_known, naming_at, or_not_json, row_at, rows_in, shape_of, table_of}
 
 -- the fault of a result, if it is one

@@ -19,7 +19,7 @@ use Rattle.wh_table_text.specs.declared.fault.TableFault.{TableFault}
 use Rattle.wh_table_text.specs.declared.fault.TableFault.TheVariants as faults
 use Rattle.wh_table_text.specs.declared.fault.RowFault.TheVariants as rules
 use Rattle.wh_table_text.specs.declared.counters.NamedCounter.{NamedCounter}
-use Rattle.wh_or_memory.specs.Outcome.{◌>>=◌, or_fault, passes, faultless, all_of}
+use Rattle.wh_row_rules.specs.Outcome.{◌>>=◌, or_fault, passes, faultless, all_of}
 use Rattle.wh_table_text.specs.Words.{phrase}
 use Rattle.wh_table_text.specs.Verbs.{job_verb, command_verb}
 use Rattle.wh_table_text.specs.Phrases.{pattern_of, template_of, condition_of, effect_of, naming_of}

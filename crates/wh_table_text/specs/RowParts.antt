@@ -5,7 +5,7 @@ use Rattle.serde_json.specs.Find.{at}
 use Rattle.wh_rows.specs.Tables.{JobPattern, Row}
 use Rattle.wh_table_text.specs.declared.fault.TableFault.{TableFault}
 use Rattle.wh_table_text.specs.declared.counters.NamedCounter.{NamedCounter}
-use Rattle.wh_or_memory.specs.Outcome.{◌>>=◌}
+use Rattle.wh_row_rules.specs.Outcome.{◌>>=◌}
 use Rattle.wh_table_text.specs.Reading.{cell, conditions_at, effects_at, or_same, templates_at}
 
 -- the row that a value describes whose state and job have been read

@@ -1,7 +1,7 @@
 //! Copies borrowed texts into owned ones.
 ghost use Rattle.std.specs.Prelude.{◌≡◌, Ok};
 ghost use Rattle.wh_table_text.specs.Phrases.{pattern_shown, template_shown, naming_shown};
-ghost use Rattle.wh_or_memory.specs.Outcome.{Gives};
+ghost use Rattle.wh_row_rules.specs.Outcome.{Gives};
 
 use crate::fault::ReadResult;
 use std::alloc::Global;

@@ -2,7 +2,7 @@
 ghost use Rattle.std.specs.Prelude.{◌≡◌};
 ghost use Rattle.wh_table_text.specs.Words.{phrase_seen};
 ghost use Rattle.wh_table_text.specs.Counters.{counter_of, counter_at, named_from, bound_at, bounds_of};
-ghost use Rattle.wh_or_memory.specs.Outcome.{Gives};
+ghost use Rattle.wh_row_rules.specs.Outcome.{Gives};
 
 use crate::copies::text_copy;
 use crate::fault::{ReadResult, TableFault};
@@ -10,7 +10,7 @@ use crate::numbers::number_in;
 use crate::words::PhraseWords;
 use std::alloc::Global;
 use wh_events::Text;
-use wh_or_memory::OrMemory;
+use wh_row_rules::OrMemory;
 use wh_rows::{Counter, Counters};
 
 /// A counter with its name in the table.

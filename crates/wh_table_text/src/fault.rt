@@ -5,8 +5,7 @@ ghost use Rattle.wh_table_text.specs.Texts.{rule_text, row_text, fault_text};
 
 use std::alloc::{AllocError, Global};
 use wh_events::Text;
-use wh_or_memory::OrMemory;
-use wh_row_rules::{BrokenRule, RowsFault};
+use wh_row_rules::{BrokenRule, OrMemory, RowsFault};
 
 /// What is wrong with a row.
 #[derive(Clone, Copy, Debug)]

@@ -15,8 +15,7 @@ use serde_json::Value;
 use std::alloc::Global;
 use wh_events::OutOfMemory;
 use wh_json::field;
-use wh_or_memory::OrMemory;
-use wh_row_rules::{OwnedRow, OwnedTable, RowsFault, row_rule, table_fault};
+use wh_row_rules::{OrMemory, OwnedRow, OwnedTable, RowsFault, row_rule, table_fault};
 
 /// Returns whether there is no fault.
 fn is_none(faults: &[TableFault]) -> bool

@@ -2,7 +2,7 @@
 ghost use Rattle.std.specs.Prelude.{◌≡◌, map, option_map};
 ghost use Rattle.serde_json.specs.View.{view};
 ghost use Rattle.wh_table_text.specs.Words.{phrase};
-ghost use Rattle.wh_or_memory.specs.Outcome.{Gives, all_of};
+ghost use Rattle.wh_row_rules.specs.Outcome.{Gives, all_of};
 ghost use Rattle.wh_table_text.specs.Phrases.{template_shown};
 ghost use Rattle.wh_table_text.specs.Reading.{text_at, one_phrase, texts_of, phrases_at};
 ghost use Rattle.wh_table_text.specs.Reading.{template_at, condition_at, effect_at, counter_in};
@@ -17,7 +17,7 @@ use serde_json::Value;
 use std::alloc::Global;
 use wh_events::Text;
 use wh_json::list_in;
-use wh_or_memory::OrMemory;
+use wh_row_rules::OrMemory;
 use wh_rows::{CommandTemplate, Condition, RowEffect};
 
 /// Returns the fault of the row of this number.

@@ -2,7 +2,7 @@
 ghost use Rattle.std.specs.Prelude.{◌≡◌, map, option_map};
 ghost use Rattle.serde_json.specs.View.{view};
 ghost use Rattle.wh_json.specs.Events.{document_within};
-ghost use Rattle.wh_or_memory.specs.Outcome.{Gives};
+ghost use Rattle.wh_row_rules.specs.Outcome.{Gives};
 ghost use Rattle.wh_table_text.specs.Reading.{or_not_json, is_known, counters_at, naming_at, rows_in, first_state, shape_of, table_from, table_of};
 
 use crate::copies::{naming_copy, text_copy};
@@ -16,8 +16,7 @@ use serde_json::Value;
 use std::alloc::Global;
 use wh_events::{Items, Text};
 use wh_json::{ReadFault, field, list_in, read_document};
-use wh_or_memory::OrMemory;
-use wh_row_rules::{OwnedRow, OwnedTable, table_fault};
+use wh_row_rules::{OrMemory, OwnedRow, OwnedTable, table_fault};
 use wh_rows::Naming;
 
 /// The most rows that a table may have.

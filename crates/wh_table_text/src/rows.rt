@@ -1,7 +1,7 @@
 //! Reads the rows of a table.
 ghost use Rattle.std.specs.Prelude.{◌≡◌, map, option_map};
 ghost use Rattle.serde_json.specs.View.{view};
-ghost use Rattle.wh_or_memory.specs.Outcome.{Gives, all_of};
+ghost use Rattle.wh_row_rules.specs.Outcome.{Gives, all_of};
 ghost use Rattle.wh_table_text.specs.Phrases.{pattern_shown};
 ghost use Rattle.wh_table_text.specs.Reading.{cell, job_at, is_short_list, or_same, row_at, rows_from};
 ghost use Rattle.wh_table_text.specs.Reading.{few_phrases, templates_at, conditions_at, effects_at};
@@ -18,8 +18,7 @@ use serde_json::Value;
 use std::alloc::Global;
 use wh_events::{Items, Text};
 use wh_json::list_in;
-use wh_or_memory::OrMemory;
-use wh_row_rules::OwnedRow;
+use wh_row_rules::{OrMemory, OwnedRow};
 use wh_rows::{CommandTemplate, Condition, JobPattern, RowEffect, RowOf};
 
 /// The most conditions, and the most marks, of a row.

@@ -12,8 +12,7 @@ use crate::reading::{document, table_from};
 use serde_json::Value;
 use std::alloc::Global;
 use wh_events::{Items, OutOfMemory};
-use wh_or_memory::OrMemory;
-use wh_row_rules::OwnedTable;
+use wh_row_rules::{OrMemory, OwnedTable};
 
 /// What one reading of a file finds of the table that it is to be.
 #[derive(Drop)]

@@ -9,7 +9,7 @@ use crate::entries::{Entry, scenario_entries};
 use std::alloc::Global;
 use wh_author_tools::commands_text;
 use wh_events::{Items, OutOfMemory, Payload, Text};
-use wh_or_memory::OrMemory;
+use wh_row_rules::OrMemory;
 use wh_table::{TableState, TableWorkflow};
 use wh_table_text::{TableFault, fault_text, read_table};
 use wh_workflow::{Command, Job, Meter, Workflow};

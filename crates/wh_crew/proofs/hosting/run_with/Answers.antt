@@ -1,8 +1,8 @@
 use Rattle.std.proofs.Common.{◌≡◌, ◌∙◌, ◌++◌, arith, List, length, map, replicate, rules, subst, sym, ap}
 use Rattle.wh_host.specs.Spares.{spare_seats}
 use Rattle.wh_host.specs.Machine.{totals_of}
-use Rattle.wh_ledger.specs.declared.Shares.{Shares}
-use Rattle.wh_ledger.specs.Shares.{no_shares}
+use Rattle.wh_host.specs.declared.ledger.Shares.{Shares}
+use Rattle.wh_host.specs.Shares.{no_shares}
 use Rattle.wh_poll.specs.Ends.{AreEnds, IsEndOf}
 use Rattle.wh_crew.proofs.Spares.{first_part, sums_back}
 use Rattle.wh_poll.proofs.Zips.{of_fresh}

@@ -1,7 +1,7 @@
 use Rattle.std.proofs.Common.{◌≡◌, ◌∙◌, arith, List, length, map, rules, subst, ap}
 use Rattle.wh_host.specs.Machine.{totals_of}
-use Rattle.wh_ledger.specs.declared.Shares.{Shares}
-use Rattle.wh_ledger.specs.Shares.{no_shares, sums_of}
+use Rattle.wh_host.specs.declared.ledger.Shares.{Shares}
+use Rattle.wh_host.specs.Shares.{no_shares, sums_of}
 use Rattle.wh_poll.specs.Ends.{AreEnds, IsEndOf}
 use Rattle.wh_poll.proofs.Zips.{of_fresh}
 use Rattle.wh_poll.proofs.hosting.run_with.Goals as goal

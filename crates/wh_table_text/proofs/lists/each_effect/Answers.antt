@@ -1,8 +1,8 @@
 use Rattle.std.proofs.Common.{sym, subst, ap, ◌∙◌, ◌+◌, map, drop}
 use Rattle.std.proofs.lemmas.Result.{err_from_is_err_and}
-use Rattle.wh_or_memory.specs.Outcome.{all_of, StopsAt}
+use Rattle.wh_row_rules.specs.Outcome.{all_of, StopsAt}
 use Rattle.wh_table_text.specs.Reading.{effect_at}
-use Rattle.wh_or_memory.proofs.Outcomes.{with_front, each_on, each_stops, each_all}
+use Rattle.wh_row_rules.proofs.Outcomes.{with_front, each_on, each_stops, each_all}
 use Rattle.wh_table_text.proofs.lists.each_effect.Goals as goal
 
 pub loop-text-preserved : goal.loop-text-preserved

@@ -1,7 +1,7 @@
 use Rattle.std.proofs.Common.{◌≡◌, drop, map}
-use Rattle.wh_or_memory.specs.Outcome.{all_of}
+use Rattle.wh_row_rules.specs.Outcome.{all_of}
 use Rattle.wh_table_text.specs.Reading.{template_at}
-use Rattle.wh_or_memory.proofs.Outcomes.{with_front}
+use Rattle.wh_row_rules.proofs.Outcomes.{with_front}
 use Rattle.wh_table_text.proofs.lists.each_template.Given as goal
 
 -- what has been read and the rest are the whole

@@ -1,9 +1,9 @@
 use Rattle.std.proofs.Common.{sym, subst, ap, ◌∙◌, ◌+◌, map, drop}
 use Rattle.std.proofs.lemmas.Result.{err_from_is_err_and}
 use Rattle.serde_json.specs.View.{view}
-use Rattle.wh_or_memory.specs.Outcome.{all_of, StopsAt}
+use Rattle.wh_row_rules.specs.Outcome.{all_of, StopsAt}
 use Rattle.wh_table_text.specs.Reading.{text_at}
-use Rattle.wh_or_memory.proofs.Outcomes.{with_front, seen_on, seen_stops, seen_all}
+use Rattle.wh_row_rules.proofs.Outcomes.{with_front, seen_on, seen_stops, seen_all}
 use Rattle.wh_table_text.proofs.lists.each_text.Goals as goal
 
 pub loop-value-preserved : goal.loop-value-preserved

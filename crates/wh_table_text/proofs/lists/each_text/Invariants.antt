@@ -1,9 +1,9 @@
 use Rattle.std.proofs.Common.{◌≡◌, drop}
 use Rattle.std.specs.Prelude.{map}
 use Rattle.serde_json.specs.View.{view}
-use Rattle.wh_or_memory.specs.Outcome.{all_of}
+use Rattle.wh_row_rules.specs.Outcome.{all_of}
 use Rattle.wh_table_text.specs.Reading.{text_at}
-use Rattle.wh_or_memory.proofs.Outcomes.{with_front}
+use Rattle.wh_row_rules.proofs.Outcomes.{with_front}
 use Rattle.wh_table_text.proofs.lists.each_text.Given as goal
 
 -- what has been read and the rest are the whole

@@ -1,9 +1,9 @@
 use Rattle.std.proofs.Common.{sym, subst, ap, ◌∙◌, ◌+◌, map, drop}
 use Rattle.std.proofs.lemmas.Result.{err_from_is_err_and}
 use Rattle.serde_json.specs.View.{view}
-use Rattle.wh_or_memory.specs.Outcome.{all_of, StopsAt}
+use Rattle.wh_row_rules.specs.Outcome.{all_of, StopsAt}
 use Rattle.wh_table_text.specs.Reading.{rows_from}
-use Rattle.wh_or_memory.proofs.Outcomes.{with_front}
+use Rattle.wh_row_rules.proofs.Outcomes.{with_front}
 use Rattle.wh_table_text.proofs.Outcomes.{row_on, row_stops, rows_all}
 use Rattle.wh_table_text.proofs.rows.each_row.Goals as goal
 

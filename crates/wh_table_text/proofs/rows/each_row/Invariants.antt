@@ -1,9 +1,9 @@
 use Rattle.std.proofs.Common.{◌≡◌, ◌+◌, drop}
 use Rattle.std.specs.Prelude.{map}
 use Rattle.serde_json.specs.View.{view}
-use Rattle.wh_or_memory.specs.Outcome.{all_of}
+use Rattle.wh_row_rules.specs.Outcome.{all_of}
 use Rattle.wh_table_text.specs.Reading.{rows_from}
-use Rattle.wh_or_memory.proofs.Outcomes.{with_front}
+use Rattle.wh_row_rules.proofs.Outcomes.{with_front}
 use Rattle.wh_table_text.proofs.rows.each_row.Given as goal
 
 -- the rows so far and the outcome of the rest are the outcome of all

@@ -1,7 +1,0 @@
-use Rattle.std.proofs.Common.{◌≡◌, ◌++◌, drop}
-use Rattle.order_host.specs.Inbox.{told}
-use Rattle.order_host.proofs.inbox.history_of.Given as goal
-
--- with the tasks that are left it is the whole
-abbrev pub invariant-loop-task : goal.invariant-loop-task
-invariant-loop-task l = l.history.items ++ told l.key l.up_to (drop l.task-index l.tasks) ≡ told l.key l.up_to l.tasks

@@ -1,5 +1,0 @@
-use Rattle.std.proofs.Common.{rules}
-use Rattle.wh_cache.proofs.Sticky.is_off.Goals as goal
-
-pub returns : goal.returns
-returns g c = search rules

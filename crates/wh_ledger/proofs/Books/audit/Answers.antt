@@ -1,5 +1,0 @@
-use Rattle.std.proofs.Common.{rules}
-use Rattle.wh_ledger.proofs.Books.audit.Goals as goal
-
-pub returns-clause-within : goal.returns-clause-within
-returns-clause-within g c = search rules

@@ -1,8 +1,0 @@
-use Rattle.std.proofs.Common.{rules}
-use Rattle.wh_ledger.proofs.Books.gather.Goals as goal
-
-pub returns-clause-sums : goal.returns-clause-sums
-returns-clause-sums g c = search rules
-
-pub returns-clause-missing : goal.returns-clause-missing
-returns-clause-missing g c = search rules

@@ -1,5 +1,0 @@
-use Rattle.std.proofs.Common.{rules}
-use Rattle.wh_ledger.proofs.Seat.share.Goals as goal
-
-pub returns : goal.returns
-returns g c = search rules
