@@ -45,8 +45,8 @@ NO_MEMORY = r"Err\(OutOfMemory\)"
 UNANSWERED = r"Err\(OutOfMemory\)|Ok\(NoMemory \{ name: TaskName\(3\) \}\)"
 ANSWERED = r"Ok\(Workflow \{ name: TaskName\(3\), hit: false, steps: 2, outcome: Completed \}\)"
 CHECKED = (
-    r"Ok\(\[Line \{ name: Text \{ text: \"nap\" \}, verdict: (OutOfMemory|Good\(Checked \{ tasks: 2, live: false \}\)) \}, "
-    r"Line \{ name: Text \{ text: \"live\" \}, verdict: (OutOfMemory|Good\(Checked \{ tasks: 2, live: true \}\)) \}\]\)"
+    r"Ok\(\[Line \{ name: Text \{ text: \"nap\" \}, verdict: (OutOfMemory|Good\(ReplayedTasks \{ tasks: 2, live: false \}\)) \}, "
+    r"Line \{ name: Text \{ text: \"live\" \}, verdict: (OutOfMemory|Good\(ReplayedTasks \{ tasks: 2, live: true \}\)) \}\]\)"
 )
 NOTHING = r"\(\)"
 SAME = None
@@ -88,7 +88,7 @@ CALLS = {
     "Host::open": [("OutOfMemory", NOTHING)],
     "serve_one": [(UNANSWERED, UNTAKEN), (UNANSWERED, FAILED), (ANSWERED, UNCACHED)],
     "serve_one of the next task": [(NEXT_UNANSWERED, SAME), (NEXT_UNANSWERED, NEXT_FAILED), (NEXT_ANSWERED, NEXT_UNCACHED)],
-    "check_all": [(NO_MEMORY, NOTHING), (CHECKED, NOTHING)],
+    "replay_inputs": [(NO_MEMORY, NOTHING), (CHECKED, NOTHING)],
 }
 # Of the calls that take a task: how its counts begin then, and what a run has to end in that is out of memory after that.
 TAKEN = {

@@ -61,7 +61,7 @@ impl Call {
     fn name(self) -> &'static str {
         match self {
             Call::ReadEvents => "read_events",
-            Call::CheckAll => "check_all",
+            Call::CheckAll => "replay_inputs",
             Call::Push => "push",
             Call::Issue => "issue",
             Call::Ask => "ask",

@@ -3,7 +3,7 @@ use crate::lookups::same_lookups;
 use crate::replay::{check, copy_of};
 use std::alloc::Global;
 use wh_events::{Event, OutOfMemory};
-use wh_replay::{Checked, Fault, RunFault};
+use wh_replay::{Fault, ReplayedTasks, RunFault};
 use wh_workflow::Workflow;
 
 /// How many histories were compared, and the results of both replays.
@@ -37,7 +37,7 @@ impl Counts {
     }
 
     /// The count that the answer belongs to.
-    fn count_of(&mut self, answer: Result<Checked, RunFault>) -> &mut u64 {
+    fn count_of(&mut self, answer: Result<ReplayedTasks, RunFault>) -> &mut u64 {
         match answer {
             Ok(_) => &mut self.good,
             Err(RunFault::Fault(Fault::Place { .. })) => &mut self.misplaced,
@@ -54,7 +54,7 @@ pub(crate) fn compare<W: Workflow>(
     events: &[Event],
     counts: &mut Counts,
 ) -> Result<(), OutOfMemory> {
-    let answer = wh_replay::check::<W>(alloc, copy_of(alloc, events)?);
+    let answer = wh_replay::replay_history::<W>(alloc, copy_of(alloc, events)?);
     let same = check::<W>(alloc, events) == answer;
     counts.histories = counts.histories.saturating_add(1);
     let is_misplaced = matches!(answer, Err(RunFault::Fault(Fault::Place { .. })));

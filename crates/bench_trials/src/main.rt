@@ -1,4 +1,4 @@
-//! Tries the libraries. `wh_replay::check` is compared with replay as its definition computes it:
+//! Tries the libraries. `wh_replay::replay_history` is compared with replay as its definition computes it:
 //! by going through the list of events anew for each place, each task and each look-up, in
 //! quadratic time. The steps and the time of calls of `Run::advance` on a long run are printed, and
 //! the peak of the process's memory shows whether a call steps only its own task. bench/growths.py

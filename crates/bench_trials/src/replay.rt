@@ -11,13 +11,13 @@ use wh_activation::jobs;
 use wh_events::{Event, EventKind, EventNo, OutOfMemory, Text};
 use wh_machines::Track;
 use wh_match::{Script, ScriptFault, Versions, matches};
-use wh_replay::{Checked, Fault, RunFault};
+use wh_replay::{Fault, ReplayedTasks, RunFault};
 use wh_workflow::{Command, Job, Meter, Workflow, WorkflowFault};
 
 /// How often a workflow may be stepped for one job: each step but the last gives a command.
 const MOST_STEPS: usize = 5_000;
 
-/// The answer that no check gives: the tables refuse events that the lists allow.
+/// The answer that no replay gives: the tables refuse events that the lists allow.
 const REFUSED: RunFault = RunFault::Fault(Fault::NotATask);
 
 /// A task of a history: the events up to the end of its record, and the commands so far.
@@ -297,8 +297,8 @@ fn run_tasks<W: Workflow>(
     events: &[Event],
     state: &mut W::State,
     versions: &mut Versions,
-) -> Result<Checked, RunFault> {
-    let mut checked = Checked {
+) -> Result<ReplayedTasks, RunFault> {
+    let mut replayed_tasks = ReplayedTasks {
         tasks: 0,
         live: false,
     };
@@ -308,15 +308,15 @@ fn run_tasks<W: Workflow>(
         if is_cut(&events[place], rest) {
             run_task::<W>(alloc, events, last, place, state, versions)?;
             last = place + 1;
-            checked.tasks = checked.tasks.saturating_add(1);
-            checked.live = !is_recorded(rest);
+            replayed_tasks.tasks = replayed_tasks.tasks.saturating_add(1);
+            replayed_tasks.live = !is_recorded(rest);
         }
     }
-    Ok(checked)
+    Ok(replayed_tasks)
 }
 
 /// Replays a history that is in place.
-fn replay<W: Workflow>(alloc: Global, events: &[Event]) -> Result<Checked, RunFault> {
+fn replay<W: Workflow>(alloc: Global, events: &[Event]) -> Result<ReplayedTasks, RunFault> {
     let kind = workflow_of(events);
     if !W::handles(kind) {
         return Err(RunFault::Fault(Fault::Workflow {
@@ -326,14 +326,17 @@ fn replay<W: Workflow>(alloc: Global, events: &[Event]) -> Result<Checked, RunFa
     }
     let mut state = W::begin(alloc, kind)?;
     let mut versions = Versions::new(alloc);
-    let checked = run_tasks::<W>(alloc, events, &mut state, &mut versions);
+    let replayed_tasks = run_tasks::<W>(alloc, events, &mut state, &mut versions);
     drop(versions);
     drop(state);
-    checked
+    replayed_tasks
 }
 
-/// Replays a history that may end anywhere. Returns what `wh_replay::check` returns.
-pub(crate) fn check<W: Workflow>(alloc: Global, events: &[Event]) -> Result<Checked, RunFault> {
+/// Replays a history that may end anywhere. Returns what `wh_replay::replay_history` returns.
+pub(crate) fn check<W: Workflow>(
+    alloc: Global,
+    events: &[Event],
+) -> Result<ReplayedTasks, RunFault> {
     if let Some((at, fault)) = history_fault(events) {
         return Err(RunFault::Fault(Fault::Place { at, fault }));
     }

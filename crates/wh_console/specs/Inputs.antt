@@ -1,7 +1,9 @@
 -- The names of inputs, and where they come from.
-use Rattle.std.specs.Prelude.{◌≡◌, ◌≢◌, Bool, true, false, List, ℕ, ◌++◌, drop, codes, string_bytes, Vec}
+use Rattle.std.specs.Prelude.{◌≡◌, ◌≢◌, Bool, true, false, List, ℕ, ◌++◌, drop, codes, Option, Some, None, String, string_bytes, Vec}
 use Rattle.std.specs.declared.alloc.Global.{Global}
 use Rattle.wh_console.specs.declared.files.Input.{Input}
+use Rattle.wh_console.specs.declared.files.InputFault.{InputFault}
+use Rattle.wh_console.specs.declared.files.InputFault.TheVariants.{Unreadable, OutOfMemory}
 use Rattle.wh_console.specs.declared.files.Origin.{Origin}
 use Rattle.wh_console.specs.declared.files.Origin.TheVariants.{File, Entry, StandardInput}
 
@@ -37,3 +39,15 @@ abbrev pub IsReadFrom : Origin → Vec ℕ Global → Type 0
 IsReadFrom (StandardInput given) bytes = bytes ≡ given
 IsReadFrom (File path) bytes = Unit {0}
 IsReadFrom (Entry dir entry) bytes = Unit {0}
+
+-- the fault is that of a path, and of the entry of the folder there, if one is named; or there was no memory
+abbrev pub IsFaultAt : (path : String Global) → (entry : Option (String Global)) → InputFault → Type 0
+IsFaultAt path entry (Unreadable own name reason) = (own ≡ path) × (name ≡ entry)
+IsFaultAt path entry OutOfMemory = Unit {0}
+
+-- why what is at this origin can't be read: the fault names it, or there was no memory; the standard input was read
+-- already
+abbrev pub IsUnreadFrom : Origin → InputFault → Type 0
+IsUnreadFrom (StandardInput given) fault = ⊥
+IsUnreadFrom (File path) fault = IsFaultAt path None fault
+IsUnreadFrom (Entry dir entry) fault = IsFaultAt dir (Some entry) fault

@@ -1,6 +1,6 @@
 //! Reads files, the files of a folder and the standard input, and replaces files.
-ghost use Rattle.std.specs.Prelude.{◌≡◌, ◌++◌, All, Bool, IfOk, OnOk, codes, replicate, string_bytes};
-ghost use Rattle.wh_console.specs.Inputs.{IsCalled, IsEndOf, IsOf, IsReadFrom, IsSingle};
+ghost use Rattle.std.specs.Prelude.{◌≡◌, ◌++◌, All, Bool, IfErr, IfOk, OnOk, codes, replicate, string_bytes};
+ghost use Rattle.wh_console.specs.Inputs.{IsCalled, IsEndOf, IsFaultAt, IsOf, IsReadFrom, IsSingle, IsUnreadFrom};
 ghost use Rattle.wh_console.specs.Names.{IsBadName, IsMarked};
 ghost use Rattle.wh_console.specs.Reasons.{reason_of, reason_words};
 
@@ -424,7 +424,9 @@ pub fn inputs_at<R: Files + io::Input + AllocGlobal>(
 }
 
 /// Returns the fault of an input for the fault of its file.
-fn input_fault(fault: FolderFault, path: String, entry: Option<String>) -> InputFault {
+fn input_fault(fault: FolderFault, path: String, entry: Option<String>) -> InputFault
+    ensures { IsFaultAt path entry result }
+{
     match fault {
         FolderFault::OutOfMemory => InputFault::OutOfMemory,
         FolderFault::Unreadable { reason } => InputFault::Unreadable {
@@ -439,7 +441,8 @@ fn input_fault(fault: FolderFault, path: String, entry: Option<String>) -> Input
 /// anything other than a file in a folder, such as a pipe, because reading it could wait forever. A
 /// pipe that was named by its own path is read until it ends.
 pub fn read_input<R: Files + AllocGlobal>(rt: &R, origin: Origin) -> Result<Vec<u8>, InputFault>
-    ensures { IfOk result (IsReadFrom origin) }
+    ensures bytes { IfOk result (IsReadFrom origin) }
+    ensures unread { IfErr result (IsUnreadFrom origin) }
 {
     match origin {
         Origin::StandardInput { bytes } => Ok(bytes),

@@ -11,7 +11,7 @@ use Rattle.wh_diagnostics.specs.Failures.{IsWriteFailure}
 use Rattle.wh_diagnostics.specs.Listings.{lacks_files}
 use Rattle.wh_diagnostics.specs.Printing.{IsRefused}
 use Rattle.wh_diagnostics.specs.Readings.{Gives}
-use Rattle.wh_diagnostics.specs.Walks.{AreTold, HasBrokenOff, HasWalked, IsTold, Silently, Visits}
+use Rattle.wh_diagnostics.specs.Walks.{AreTold, HasBrokenOff, HasWalked, IsStoppedAt, IsTold, Silently, Visits}
 use Rattle.wh_diagnostics.specs.declared.failures.Failure.{Failure}
 use Rattle.wh_diagnostics.specs.declared.failures.Failure.TheVariants.{Output, OutOfMemory}
 
@@ -47,12 +47,12 @@ inputs_parted all seen x so_far less at =
     ∙ ap (λ l. seen ++ l) (drop_more all (length seen) x less ∙ ap (λ y. y ∷ drop (length seen + 1) all) (sym at))
 
 -- the command stopped at an input
-pub stopped_at : {K : Type 0} (visits : Visits K) (gives : Gives) (inputs front rest : List Input) (all : List K) (old between new : ConsoleView) (failure : Failure)
-    → inputs ≡ front ++ rest → AreTold (visits.tells gives) front all old between → IsRefused between new failure → visits.stops failure
+pub stopped_at : {K : Type 0} (visits : Visits K) (gives : Gives) (inputs front : List Input) (input : Input) (rest : List Input) (all : List K) (old between new : ConsoleView) (failure : Failure)
+    → inputs ≡ front ++ (input ∷ rest) → AreTold (visits.tells gives) front all old between → IsRefused between new failure → visits.stops input failure
     → HasBrokenOff visits gives inputs old new failure
-stopped_at visits gives inputs front rest all old between new failure parts told refused why = record {
+stopped_at visits gives inputs front input rest all old between new failure parts told refused why = record {
   front = front;
-  rest = rest;
+  rest = input ∷ rest;
   parts = parts;
   all = all;
   between = between;
@@ -107,7 +107,7 @@ unended visits gives inputs all old between new (Err failure) told refused why =
   between = between;
   told = told;
   refused = refused;
-  why = ended_why (visits.stops failure) [] failure refl why;
+  why = ended_why (IsStoppedAt visits.stops [] failure) [] failure refl why;
 }
 
 -- nothing was written of an input

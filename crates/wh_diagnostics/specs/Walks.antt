@@ -9,10 +9,10 @@ use Rattle.wh_diagnostics.specs.declared.failures.Failure.{Failure}
 use Rattle.wh_diagnostics.specs.declared.failures.Failure.TheVariants.{Output, OutOfMemory}
 
 -- what a command makes of inputs: what it keeps of one that is read and which text it writes of it before the next one
--- is read, why it may stop at one, and what it ends with after all, by what it kept and whether files are lacking
+-- is read, why it may stop at that one, and what it ends with after all, by what it kept and whether files are lacking
 pub record Visits (K : Type 0) : Type 1 where
   pub tells : Gives → Input → K → (text : List ℕ) → Type 0
-  pub stops : Failure → Type 0
+  pub stops : Input → Failure → Type 0
   pub ends : List K → (lacks : Bool) → (old new : ConsoleView) → (status : ℕ) → Type 0
 
 -- what is kept of an input of which nothing is written
@@ -41,8 +41,14 @@ pub record HasWalked {K : Type 0} (visits : Visits K) (gives : Gives) (inputs : 
   pub told : AreTold (visits.tells gives) inputs all old between
   pub ended : visits.ends all (lacks_files left_out false inputs) between new status
 
+-- the command stops at the first of these inputs, for this reason
+abbrev pub IsStoppedAt : (Stops : Input → Failure → Type 0) → List Input → Failure → Type 0
+IsStoppedAt Stops [] failure = ⊥
+IsStoppedAt Stops (input ∷ inputs) failure = Stops input failure
+
 -- a command broke off: the first inputs were told, perhaps none or all, and nothing more was reported or, unless the
--- output failed, written; it stopped at an input, or all were told and the output failed, or there was no memory
+-- output failed, written; it stopped at the input after those, or all were told and the output failed, or there was no
+-- memory
 pub record HasBrokenOff {K : Type 0} (visits : Visits K) (gives : Gives) (inputs : List Input) (old new : ConsoleView)
     (failure : Failure) : Type 0 where
   pub front : List Input
@@ -52,4 +58,4 @@ pub record HasBrokenOff {K : Type 0} (visits : Visits K) (gives : Gives) (inputs
   pub between : ConsoleView
   pub told : AreTold (visits.tells gives) front all old between
   pub refused : IsRefused between new failure
-  pub why : visits.stops failure ⊎ (((rest ≡ []) × (failure ≡ Output)) ⊎ (failure ≡ OutOfMemory))
+  pub why : IsStoppedAt visits.stops rest failure ⊎ (((rest ≡ []) × (failure ≡ Output)) ⊎ (failure ≡ OutOfMemory))

@@ -1,34 +1,12 @@
 //! Reports the workflow types that are registered, if a file has another one.
-ghost use Rattle.std.specs.Prelude.{◌≡◌, OnOk};
+ghost use Rattle.std.specs.Prelude.{OnOk};
 ghost use Rattle.std.specs.Io.KnownBytes.{Appends};
-ghost use Rattle.wh_diagnostics.specs.KnownTypes.{is_no_code, known_types_text, lacks_code};
+ghost use Rattle.wh_diagnostics.specs.KnownTypes.{known_types_text};
 
 use std::io;
 use std::io::Write;
 use wh_console::Message;
-use wh_file_faults::FaultDetail;
 use wh_tester::Shown;
-
-/// Returns whether the detail of a file's fault is that its workflow type is not registered.
-pub fn is_no_code(detail: &FaultDetail) -> bool
-    ensures no_code { result ≡ is_no_code detail.now }
-{
-    match detail {
-        FaultDetail::NoCode { .. } => true,
-        _ => false,
-    }
-}
-
-/// Returns whether there is a detail of a file's fault, and it is that its workflow type is not
-/// registered.
-pub fn lacks_code(detail: &Option<FaultDetail>) -> bool
-    ensures lacks { result ≡ lacks_code detail.now }
-{
-    match detail {
-        Some(detail) => is_no_code(detail),
-        None => false,
-    }
-}
 
 /// The registered workflow types, which are reported if the workflow type of a file is not among
 /// them.

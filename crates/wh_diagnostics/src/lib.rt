@@ -28,7 +28,7 @@ pub use diagnostics::{Diagnostic, write_line};
 pub use endings::{fail, fail_under, no_memory};
 pub use failures::{Failure, unreadable_path};
 pub use files::file_at;
-pub use known_types::{KnownTypes, is_no_code, lacks_code};
+pub use known_types::KnownTypes;
 pub use line::{UNCALLED, output, plan, program_name, words};
 pub use listing::{Listed, all_inputs, folder_of};
 pub use printing::{flush_answer, print, status_with};

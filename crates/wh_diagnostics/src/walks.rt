@@ -39,7 +39,7 @@ pub trait Visitor {
     ) -> Result<Self::Kept, Failure>
         ensures told { IfOk result (IsTold ((visits self.now).tells R.gives input) console.old console.new) }
         ensures refused { IfErr result (IsRefused console.old console.new) }
-        ensures why { IfErr result (visits self.now).stops };
+        ensures why { IfErr result ((visits self.now).stops input) };
 
     /// Writes what there is to write of all inputs, by what was kept of them and whether files are
     /// lacking, puts it out, and returns the status. `Output` if it can't be written; other than

@@ -19,14 +19,15 @@ use Rattle.wh_workflow.specs.Names.{names}
 use Rattle.wh_workflow.specs.Scripts.{Settled, reduced}
 use Rattle.wh_workflow.specs.Activations.{and_then}
 use Rattle.wh_workflow.specs.ActivationScripts.{fault_in, issued_in}
-use Rattle.wh_replay.specs.declared.fault.Checked.{Checked}
+use Rattle.wh_replay.specs.declared.fault.ReplayedTasks.{ReplayedTasks}
 use Rattle.wh_replay.specs.declared.fault.Fault.{Fault}
 use Rattle.wh_replay.specs.declared.fault.Fault.TheVariants.{Mismatch as Mismatched}
-use Rattle.wh_replay.specs.Checks.{checked, ends_live}
+use Rattle.wh_replay.specs.Outcomes.{replayed_tasks, ends_live}
 use Rattle.wh_replay.specs.Replays.{ReplayResult, replay, replay_after, replay_known, replay_placed, replay_tasks, start, with_machines, workflow_of}
 use Rattle.wh_replay.specs.Views.{context_after}
 use Rattle.wh_replay.specs.Tracking.{in_place}
 use Rattle.wh_tester.specs.declared.line.Verdict.TheVariants.{Faulty}
+use Rattle.wh_tester.specs.UnknownTypes.{unknown_of}
 use Rattle.wh_tester.specs.Verdicts.{judged, read_and_judged, verdict_on}
 use Rattle.wh_explained_tasks.specs.declared.Ending.{Ending}
 use Rattle.wh_explained_tasks.specs.declared.Ending.TheVariants.{Refused, Live, Recorded}
@@ -132,9 +133,10 @@ fault_before : {A B : Type 0} (result : Result A Fault) (left : A → B) (fault 
 fault_before (Ok one) left fault is = absurd (cc)
 fault_before (Err own) left fault is = (let same : own ≡ fault = cc in ap Err same)
 
-judged_faulty : (result : Result Checked Fault) (fault : Fault) → judged result ≡ Faulty fault → result ≡ Err fault
-judged_faulty (Ok one) fault is = absurd (cc)
-judged_faulty (Err own) fault is = (let same : own ≡ fault = cc in ap Err same)
+judged_faulty : (unknown : Option (List ℕ)) (result : Result ReplayedTasks Fault) (fault : Fault) → judged unknown result ≡ Faulty fault → result ≡ Err fault
+judged_faulty (Some kind) result fault is = absurd (cc)
+judged_faulty None (Ok one) fault is = absurd (cc)
+judged_faulty None (Err own) fault is = (let same : own ≡ fault = cc in ap Err same)
 
 module _ {S : Type 0} where
   placed_where : (place : Option (ℕ × PlaceFault)) (replayed : Result (ReplayResult S) Fault) (at : ℕ) (mismatch : Mismatch) → replay_placed place replayed ≡ Err (Mismatched at mismatch) → place ≡ None
@@ -172,7 +174,7 @@ difference_found {S} program lawful bytes found own stops = subst IsSome (sym ow
     by : (read : Result (List Event) ReadFault) → AreTasksIn program read own.tasks → read_and_judged program read ≡ Faulty (Mismatched stops.0 stops.1) → IsSome (last_difference own.tasks)
     by (Err fault) are is = absurd (cc)
     by (Ok events) are is =
-        let whole = judged_faulty (checked program events) (Mismatched stops.0 stops.1) is in
+        let whole = judged_faulty (unknown_of program events) (replayed_tasks program events) (Mismatched stops.0 stops.1) is in
         let replayed = fault_before (replay program events 0) (λ _. record { tasks = length (cuts events); live = ends_live events }) (Mismatched stops.0 stops.1) whole in
         let left = fault_before (replay_tasks program events 0) (with_machines (machines_of events)) (Mismatched stops.0 stops.1) replayed in
         tasks_found program lawful events stops.0 stops.1 own.tasks are left

@@ -1,6 +1,6 @@
 -- What replay finds of a history, by its tasks.
 use Rattle.std.proofs.Common.{◌≡◌, ◌∙◌, ℕ, Bool, true, false, cond, List, [], length, Option, Some, None, Result, Ok, Err, refl, sym, ap, subst}
-use Rattle.std.specs.Prelude.{◌≢◌, ◌≤◌, IfErr, IfOk, IfSome, IsSome}
+use Rattle.std.specs.Prelude.{◌≢◌, ◌≤◌, IfErr, IfOk, IsSome}
 use Rattle.wh_events.specs.declared.event.Event.{Event}
 use Rattle.wh_events.specs.declared.place.PlaceFault.{PlaceFault}
 use Rattle.wh_events.specs.Cuts.{cuts}
@@ -10,18 +10,17 @@ use Rattle.wh_json.specs.declared.fault.ReadFault.{ReadFault}
 use Rattle.wh_json.specs.declared.fault.ReadFault.TheVariants.{OutOfMemory as ReadMemory}
 use Rattle.wh_json.specs.Events.{history, longest}
 use Rattle.wh_workflow.specs.declared.fault.Mismatch.{Mismatch}
-use Rattle.wh_workflow.specs.declared.fault.WorkflowFault.TheVariants.{UnknownWorkflow}
 use Rattle.wh_workflow.specs.Activations.{and_then}
 use Rattle.wh_workflow.specs.Law.{Program, IsLawful}
 use Rattle.wh_workflow.specs.Scripts.{Settled}
-use Rattle.wh_replay.specs.declared.fault.Checked.{Checked}
+use Rattle.wh_replay.specs.declared.fault.ReplayedTasks.{ReplayedTasks}
 use Rattle.wh_replay.specs.declared.fault.Fault.{Fault}
-use Rattle.wh_replay.specs.declared.fault.Fault.TheVariants.{Workflow as WorkflowFaulty, Mismatch as Mismatched}
-use Rattle.wh_replay.specs.Checks.{checked, ends_live}
+use Rattle.wh_replay.specs.declared.fault.Fault.TheVariants.{Mismatch as Mismatched}
+use Rattle.wh_replay.specs.Outcomes.{replayed_tasks, ends_live}
 use Rattle.wh_replay.specs.Replays.{ReplayResult, replay_after, replay_known, replay_placed, replay_tasks, start, with_machines, workflow_of}
 use Rattle.wh_replay.specs.Tracking.{in_place}
 use Rattle.wh_tester.specs.declared.line.Verdict.{Verdict}
-use Rattle.wh_tester.specs.declared.line.Verdict.TheVariants.{Unreadable, Faulty, OutOfMemory}
+use Rattle.wh_tester.specs.declared.line.Verdict.TheVariants.{Unreadable, NoCode, Faulty, OutOfMemory}
 use Rattle.wh_tester.specs.Verdicts.{IsVerdict, judged, read_and_judged, verdict_on}
 use Rattle.wh_explain.specs.declared.explanation.DetailLevel.{DetailLevel}
 use Rattle.wh_explained_tasks.specs.declared.ExplainedTask.{ExplainedTask}
@@ -29,9 +28,9 @@ use Rattle.wh_explain.specs.declared.explanation.DetailLevel.TheVariants.{Steps,
 use Rattle.wh_explain.specs.declared.explanation.Explanation.{Explanation}
 use Rattle.wh_explain.specs.Differences.{IsDifferenceIn, last_difference}
 use Rattle.wh_explain.specs.Explaining.{AreTasksIf, AreTasksIn, AreTasksPlaced}
-use Rattle.wh_tester.specs.UnknownTypes.{unknown_in, unknown_placed}
+use Rattle.wh_tester.specs.UnknownTypes.{unknown_of, unknown_placed}
 use Rattle.wh_explain.specs.Reading.{IsExplanationIn}
-use Rattle.wh_explain.specs.Private.Findings.{IsFoundIn, IsFoundOf, IsFoundPlaced, checked_placed}
+use Rattle.wh_explain.specs.Private.Findings.{IsFoundIn, IsFoundOf, IsFoundPlaced, replayed_placed}
 use Rattle.wh_explain.specs.Private.Tasks.{AreKept, walked}
 use Rattle.wh_explain.proofs.Ends.{keeps_all, last_kept}
 use Rattle.wh_explain.proofs.Found.{difference_found}
@@ -44,23 +43,21 @@ left_alone (Err fault) left x = refl
 
 -- an explanation with nothing but a verdict
 abbrev pub verdict_alone : Verdict → Explanation
-verdict_alone verdict = record { verdict = verdict; unknown = None; difference = None; tasks = [] }
-
--- that of a workflow type that is not registered
-abbrev pub without_code : List ℕ → Explanation
-without_code kind = record { verdict = Faulty (WorkflowFaulty 1 UnknownWorkflow); unknown = Some kind; difference = None; tasks = [] }
+verdict_alone verdict = record { verdict = verdict; difference = None; tasks = [] }
 
 -- and that of tasks
 abbrev pub explained_by : Verdict → List ExplainedTask → Explanation
-explained_by verdict tasks = record { verdict = verdict; unknown = None; difference = last_difference tasks; tasks = tasks }
+explained_by verdict tasks = record { verdict = verdict; difference = last_difference tasks; tasks = tasks }
 
-judged_not_read : (result : Result Checked Fault) (fault : ReadFault) → judged result ≢ Unreadable fault
-judged_not_read (Ok one) fault is = absurd (cc)
-judged_not_read (Err own) fault is = absurd (cc)
+judged_not_read : (unknown : Option (List ℕ)) (result : Result ReplayedTasks Fault) (fault : ReadFault) → judged unknown result ≢ Unreadable fault
+judged_not_read (Some kind) result fault is = absurd (cc)
+judged_not_read None (Ok one) fault is = absurd (cc)
+judged_not_read None (Err own) fault is = absurd (cc)
 
-judged_known : (result : Result Checked Fault) → judged result ≢ OutOfMemory
-judged_known (Ok one) is = absurd (cc)
-judged_known (Err own) is = absurd (cc)
+judged_known : (unknown : Option (List ℕ)) (result : Result ReplayedTasks Fault) → judged unknown result ≢ OutOfMemory
+judged_known (Some kind) result is = absurd (cc)
+judged_known None (Ok one) is = absurd (cc)
+judged_known None (Err own) is = absurd (cc)
 
 -- a workflow type that is not named is registered, and one that is named is not
 pub known_by : (knows : Bool) (kind : List ℕ) → None ≡ cond knows None (Some kind) → knows ≡ true
@@ -72,26 +69,30 @@ unknown_by true kind named is = absurd (cc)
 unknown_by false kind named is = (refl, (let same : named ≡ kind = cc in same))
 
 module _ {S : Type 0} (program : Program S) where
-  -- a check of a history goes by where its events are
-  checked_by_place : (events : List Event) → checked program events ≡ checked_placed program (in_place (history_fault events) events)
+  -- the replay of a history goes by where its events are
+  replayed_by_place : (events : List Event) → replayed_tasks program events ≡ replayed_placed program (in_place (history_fault events) events)
   unfolding replay_tasks
-  checked_by_place events = by (history_fault events)
+  replayed_by_place events = by (history_fault events)
     where
       by : (place : Option (ℕ × PlaceFault))
-          → ◌≡◌ {A = Result Checked Fault} (and_then (and_then (replay_placed place (replay_known (program.knows (workflow_of events)) (replay_after program [] [] events (start program (workflow_of events) 0)))) (λ left. Ok (with_machines (machines_of events) left))) (λ _. Ok (record { tasks = length (cuts events); live = ends_live events })))
-          (checked_placed program (in_place place events))
+          → ◌≡◌ {A = Result ReplayedTasks Fault} (and_then (and_then (replay_placed place (replay_known (program.knows (workflow_of events)) (replay_after program [] [] events (start program (workflow_of events) 0)))) (λ left. Ok (with_machines (machines_of events) left))) (λ _. Ok (record { tasks = length (cuts events); live = ends_live events })))
+          (replayed_placed program (in_place place events))
       by None = left_alone (replay_known (program.knows (workflow_of events)) (replay_after program [] [] events (start program (workflow_of events) 0))) (with_machines (machines_of events)) (record { tasks = length (cuts events); live = ends_live events })
       by (Some fault) = refl
 
   -- the verdict on tasks that were stepped
-  verdict_walked : (events : List Event) → program.knows (workflow_of events) ≡ true → walked program events (program.initial (workflow_of events)) [] ≡ checked_placed program (Ok events)
+  verdict_walked : (events : List Event) → program.knows (workflow_of events) ≡ true → walked program events (program.initial (workflow_of events)) [] ≡ replayed_placed program (Ok events)
   verdict_walked events known =
-      let all : ReplayResult S → Result Checked Fault = λ _. Ok (record { tasks = length (cuts events); live = ends_live events }) in
+      let all : ReplayResult S → Result ReplayedTasks Fault = λ _. Ok (record { tasks = length (cuts events); live = ends_live events }) in
       ap (λ b. and_then (replay_known b (replay_after program [] [] events (start program (workflow_of events) 0))) all) (sym known)
 
+  -- the verdict on events in place, by whether their type is registered
+  abbrev judged_where : List Event → Bool → Verdict
+  judged_where events knows = judged (cond knows None (Some (workflow_of events))) (replayed_placed program (Ok events))
+
   -- what replay finds if the workflow type is registered
-  pub walk_found : (detail : DetailLevel) (events : List Event) (state : S) (settled : Settled) (tasks : List ExplainedTask) (found : Result Checked Fault) → program.knows (workflow_of events) ≡ true
-      → state ≡ program.initial (workflow_of events) → settled ≡ [] → AreKept detail program events state settled tasks → walked program events state settled ≡ found → IsFoundPlaced detail program (Ok events) (explained_by (judged found) tasks)
+  pub walk_found : (detail : DetailLevel) (events : List Event) (state : S) (settled : Settled) (tasks : List ExplainedTask) (found : Result ReplayedTasks Fault) → program.knows (workflow_of events) ≡ true
+      → state ≡ program.initial (workflow_of events) → settled ≡ [] → AreKept detail program events state settled tasks → walked program events state settled ≡ found → IsFoundPlaced detail program (Ok events) (explained_by (judged None found) tasks)
   walk_found detail events state settled tasks found known begins settles walks is =
       let P : S → Settled → Type 0 = λ s v. AreKept detail program events s v tasks × (walked program events s v ≡ found) in
       let own : P (program.initial (workflow_of events)) [] = subst (P (program.initial (workflow_of events))) settles (subst (λ s. P s settled) begins (walks, is)) in
@@ -99,20 +100,17 @@ module _ {S : Type 0} (program : Program S) where
         tasks = own.0.tasks;
         explained = subst (λ b. AreTasksIf b program events own.0.tasks) (sym known) own.0.explained;
         keeps = keeps_all detail tasks own.0.tasks own.0.keeps;
-        unknown_is = ap (λ b. cond b None (Some (workflow_of events))) (sym known);
-        verdict_is = ap judged (sym own.1 ∙ verdict_walked events known);
+        verdict_is = ap (judged None) (sym own.1 ∙ verdict_walked events known) ∙ ap (judged_where events) (sym known);
         differs_in = last_kept detail tasks own.0.tasks own.0.keeps;
       }
 
   -- and where there is none
-  pub no_code_found : (detail : DetailLevel) (events : List Event) (kind : List ℕ) → program.knows (workflow_of events) ≡ false → kind ≡ workflow_of events → IsFoundPlaced detail program (Ok events) (without_code kind)
+  pub no_code_found : (detail : DetailLevel) (events : List Event) (kind : List ℕ) → program.knows (workflow_of events) ≡ false → kind ≡ workflow_of events → IsFoundPlaced detail program (Ok events) (verdict_alone (NoCode kind))
   no_code_found detail events kind unknown is = record {
     tasks = [];
     explained = subst (λ b. AreTasksIf b program events []) (sym unknown) refl;
     keeps = keeps_whole detail [] [] refl;
-    unknown_is = ap Some is ∙ ap (λ b. cond b None (Some (workflow_of events))) (sym unknown);
-    verdict_is =
-        ap (λ b. judged (and_then (replay_known b (replay_after program [] [] events (start program (workflow_of events) 0))) (λ _. Ok (record { tasks = length (cuts events); live = ends_live events })))) (sym unknown);
+    verdict_is = ap NoCode is ∙ ap (judged_where events) (sym unknown);
     differs_in = refl;
   }
 
@@ -122,8 +120,10 @@ module _ {S : Type 0} (program : Program S) where
     tasks = found.tasks;
     explained = subst (λ r. AreTasksPlaced r program found.tasks) (sym e) found.explained;
     keeps = found.keeps;
-    unknown_is = found.unknown_is ∙ ap (unknown_placed program) (sym e);
-    verdict_is = found.verdict_is ∙ (ap (λ r. judged (checked_placed program r)) (sym e) ∙ ap judged (sym (checked_by_place events)));
+    verdict_is =
+        found.verdict_is
+        ∙ (ap (λ r. judged (unknown_placed program r) (replayed_placed program r)) (sym e)
+        ∙ ap (judged (unknown_of program events)) (sym (replayed_by_place events)));
     differs_in = found.differs_in;
   }
 
@@ -131,7 +131,7 @@ module _ {S : Type 0} (program : Program S) where
   pub misplaced_found : (detail : DetailLevel) (events : List Event) (fault : Fault) → in_place (history_fault events) events ≡ Err fault → IsFoundOf detail program events (verdict_alone (Faulty fault))
   misplaced_found detail events fault e =
       placed_found detail events (Err fault) (verdict_alone (Faulty fault)) e
-      (record { tasks = []; explained = refl; keeps = keeps_whole detail [] [] refl; unknown_is = refl; verdict_is = refl; differs_in = refl })
+      (record { tasks = []; explained = refl; keeps = keeps_whole detail [] [] refl; verdict_is = refl; differs_in = refl })
 
   -- what is found of a file that can be read is that of its history
   pub read_found : (detail : DetailLevel) (bytes : List ℕ) (events : List Event) (own : Explanation) → history bytes ≡ Ok events → IsFoundOf detail program events own → IsFoundIn detail program bytes own
@@ -140,7 +140,6 @@ module _ {S : Type 0} (program : Program S) where
     tasks = found.tasks;
     explained = subst (λ r. AreTasksIn program r found.tasks) (sym e) found.explained;
     keeps = found.keeps;
-    unknown_is = found.unknown_is ∙ ap (unknown_in program) (sym e);
     verdict_is = found.verdict_is ∙ ap (read_and_judged program) (sym e);
     differs_in = found.differs_in;
   }
@@ -152,17 +151,16 @@ module _ {S : Type 0} (program : Program S) where
     tasks = [];
     explained = subst (λ r. AreTasksIn program r []) (sym e) refl;
     keeps = keeps_whole detail [] [] refl;
-    unknown_is = ap (unknown_in program) (sym e);
     verdict_is = ap (read_and_judged program) (sym e);
     differs_in = refl;
   }
 
   -- what is found of a history is no fault of its bytes
   pub history_read : (detail : DetailLevel) (events : List Event) (own : Explanation) → IsFoundOf detail program events own → own.verdict ≢ Unreadable ReadMemory
-  history_read detail events own found is = judged_not_read (checked program events) ReadMemory (sym found.verdict_is ∙ is)
+  history_read detail events own found is = judged_not_read (unknown_of program events) (replayed_tasks program events) ReadMemory (sym found.verdict_is ∙ is)
 
   known : (read : Result (List Event) ReadFault) → read_and_judged program read ≢ OutOfMemory
-  known (Ok events) is = judged_known (checked program events) is
+  known (Ok events) is = judged_known (unknown_of program events) (replayed_tasks program events) is
   known (Err fault) is = absurd (cc)
 
   -- the verdict that is found is the one on the file
@@ -182,14 +180,6 @@ module _ {S : Type 0} (program : Program S) where
   difference_there lawful detail bytes own at mismatch found is =
       difference_found program lawful bytes own.difference (found_difference detail bytes own found) (at, mismatch, sym found.verdict_is ∙ is)
 
-named_by : (found kind : Option (List ℕ)) → found ≡ kind → IfSome found (λ own. kind ≡ Some own)
-named_by None kind is = tt
-named_by (Some own) kind is = sym is
-
--- a workflow type that is found is the one without code
-pub found_named : {S : Type 0} (program : Program S) (detail : DetailLevel) (bytes : List ℕ) (own : Explanation) → IsFoundIn detail program bytes own → IfSome own.unknown (λ kind. unknown_in program (history bytes) ≡ Some kind)
-found_named program detail bytes own found = named_by own.unknown (unknown_in program (history bytes)) found.unknown_is
-
 -- what follows of the value
 pub all_ok : {X E : Type 0} {P Q : X → Type 0} (r : Result X E) → ((x : X) → P x → Q x) → IfOk r P → IfOk r Q
 all_ok (Ok x) f p = f x p
@@ -204,13 +194,12 @@ ok_along P (Err e) x is p = tt
 pub bare_found : {S : Type 0} (program : Program S) (bytes : List ℕ) (own bare : Explanation) → bare ≡ record own { tasks = [] } → IsFoundIn VerdictAlone program bytes own → IsFoundIn VerdictAlone program bytes bare
 bare_found program bytes own bare is found =
     subst (IsFoundIn VerdictAlone program bytes) (sym is)
-    (record { tasks = found.tasks; explained = found.explained; keeps = tt; unknown_is = found.unknown_is; verdict_is = found.verdict_is; differs_in = found.differs_in })
+    (record { tasks = found.tasks; explained = found.explained; keeps = tt; verdict_is = found.verdict_is; differs_in = found.differs_in })
 
 -- the tasks that are kept are those that are found
 pub kept_found : {S : Type 0} (program : Program S) (bytes : List ℕ) (own : Explanation) → IsFoundIn Steps program bytes own → own.verdict ≢ Unreadable ReadMemory → IsExplanationIn program bytes own
 kept_found program bytes own found read = record {
   explained = subst (AreTasksIn program (history bytes)) (sym found.keeps) found.explained;
-  unknown = found.unknown_is;
   verdict = found_verdict program Steps bytes own found read;
   difference = found.differs_in ∙ ap last_difference (sym found.keeps);
 }

@@ -7,10 +7,10 @@ use Rattle.wh_workflow.specs.declared.job.Job.{Job}
 use Rattle.wh_workflow.specs.declared.fault.WorkflowFault.{WorkflowFault}
 use Rattle.wh_workflow.specs.Law.{Program, IsLawful}
 use Rattle.wh_workflow.specs.Scripts.{ActivationContext, Settled, command_fault}
-use Rattle.wh_workflow.specs.Activations.{Progress, Turn, turn, follow, room}
+use Rattle.wh_workflow.specs.Activations.{Progress, Turn, activate, turn, follow, room}
 use Rattle.wh_workflow.specs.ActivationScripts.{Step, IsLongest, first_fault, ok_unless}
 use Rattle.wh_workflow.proofs.Judging.{up_to_fault, up_to_stood}
-use Rattle.wh_workflow.proofs.Following.{no_versions, IsTraced, Completes, traced_none, traced_more, traced_fault, traced_end}
+use Rattle.wh_workflow.proofs.Following.{no_versions, IsTraced, Completes, traced_none, traced_more, traced_fault, traced_end, whole_meets}
 use Rattle.wh_workflow.proofs.Scripting.{longest_in_words}
 use Rattle.wh_match.specs.declared.fault.ScriptFault.{ScriptFault}
 use Rattle.wh_match.specs.declared.fault.ScriptFault.TheVariants.{Workflow, OutOfMemory}
@@ -19,7 +19,7 @@ use Rattle.wh_replay.proofs.Settling.{settled_less, ok_same}
 use Rattle.wh_replay.specs.Activating.{StopsBy}
 use Rattle.wh_explain.specs.declared.explanation.DetailLevel.{DetailLevel}
 use Rattle.wh_explain.specs.declared.explanation.DetailLevel.TheVariants.{Verdict, Steps}
-use Rattle.wh_explain.specs.Private.Stepping.{AddsOneStep, AddsStep, Keeps, Shows, Leaves}
+use Rattle.wh_explain.specs.Private.Stepping.{AddsStep, Keeps, Shows, Leaves}
 
 -- what is kept may be the whole
 pub keeps_whole : {A : Type 0} (detail : DetailLevel) (kept whole : A) → kept ≡ whole → Keeps detail kept whole
@@ -50,14 +50,6 @@ shows_fault A (Workflow fault) program context now job given shown issued settle
   is ∙ up_to_place given stop.front stop.rest stop.command place stop.parts stop.place_is,
 )
 shows_fault A OutOfMemory program context now job given shown issued settled place gave settles issues is stop = tt
-
--- a step with an invalid command is one more, whatever is shown of it
-pub adds_fault : {S : Type 0} (A : Type 0) (fault : ScriptFault) (program : Program S) (context : ActivationContext) (now : Progress S) (job : Job) (before : List Step) (given issued : List Command) (settled : Settled) (place : ℕ) → given ≡ program.gives now.state job
-    → settled ≡ now.script.settled → issued ≡ now.script.issued → StopsBy fault context settled issued given place → AddsOneStep {A = A} (Err fault) program context now job before
-adds_fault A (Workflow fault) program context now job before given issued settled place gave settles issues stop =
-    let shown = take place given in
-    (before ++ record { job = job; commands = shown } ∷ [], (shown, refl, shows_fault A (Workflow fault) program context now job given shown issued settled place gave settles issues refl stop))
-adds_fault A OutOfMemory program context now job before given issued settled place gave settles issues stop = (before, tt)
 
 same_outcome : {A : Type 0} (one other : Option WorkflowFault) (a b : A) → ok_unless one a ≡ ok_unless other b → (one ≡ other) × (one ≡ None → a ≡ b)
 same_outcome None None a b e = (refl, λ none. ok_same a b e)
@@ -111,6 +103,15 @@ module _ {S : Type 0} (program : Program S) (lawful : IsLawful program) (context
         versions_are = λ none. ap (λ (p : Progress S). p.script.settled) (same.1 none);
         issued_are = λ none. ap (λ (p : Progress S). p.script.issued) (same.1 none);
       }
+
+  -- an activation that runs as that of a worker takes the steps of the longest script
+  pub ran_as : (begin left : Progress S) (fault : Option WorkflowFault) → IsTrue (no_versions jobs) → begin ≡ progress state settled [] 0 → activate program context jobs begin ≡ ok_unless fault left
+      → (steps : List Step) × IsLongest program context jobs state settled steps × Leaves program context state settled steps fault left.state left.script.settled left.script.issued
+  ran_as begin left fault plain is ran =
+      let meets = whole_meets program lawful context jobs state settled 0 plain (omega arith) in
+      let own : activate program context jobs (progress state settled [] 0) ≡ ok_unless fault left = ap (activate program context jobs) (sym is) ∙ ran in
+      let all : Completes program lawful context jobs state settled 0 meets.0 (ok_unless fault left) = (meets.1, meets.2, sym own ∙ meets.3) in
+      (meets.0, is_longest meets.0 (ok_unless fault left) all, leaves meets.0 fault left all)
 
 -- a version job leaves less room
 pub less_room : {S : Type 0} (program : Program S) (context : ActivationContext) (next : Option Job) (job version : Job) (jobs : ℕ) (now after : Progress S) → next ≡ Some job

@@ -8,13 +8,13 @@ use Rattle.wh_workflow.specs.Law.{Program, IsLawful}
 use Rattle.wh_workflow.specs.Scripts.{Settled}
 use Rattle.wh_workflow.specs.ActivationScripts.{settled_after, state_after}
 use Rattle.wh_replay.specs.declared.cut.Cut.{Cut}
-use Rattle.wh_replay.specs.declared.fault.Checked.{Checked}
+use Rattle.wh_replay.specs.declared.fault.ReplayedTasks.{ReplayedTasks}
 use Rattle.wh_replay.specs.declared.fault.Fault.{Fault}
 use Rattle.wh_replay.specs.declared.fault.RunFault.{RunFault}
 use Rattle.wh_replay.specs.declared.fault.RunFault.TheVariants.{Fault as Faulty, OutOfMemory}
 use Rattle.wh_replay.specs.declared.state.ReplayState.{ReplayState}
 use Rattle.wh_replay.specs.Activating.{IsCutAfter}
-use Rattle.wh_replay.specs.Checks.{Answers, ends_live, replay_result}
+use Rattle.wh_replay.specs.Outcomes.{Answers, ends_live, replay_result}
 use Rattle.wh_split.specs.Splits.{first_of}
 use Rattle.wh_replay.specs.Replays.{ReplayResult, replay_after}
 use Rattle.wh_replay.specs.Views.{context_of, context_after}
@@ -36,9 +36,9 @@ pub fault_here : (events : List Event) (last : ℕ) (cut : Cut) (settled : Settl
 fault_here events last cut settled task fault is here =
     here ∙ (ap (λ l. task_fault l (context_of cut) settled cut.number task.steps) is.history ∙ ap (λ k. task_fault events k settled cut.number task.steps) is.context)
 
--- the result of a check, made of these values
-abbrev checked_as : ℕ → Bool → Result Checked Fault
-checked_as tasks live = Ok (record { tasks = tasks; live = live })
+-- what replay finds, made of these values
+abbrev replayed_as : ℕ → Bool → Result ReplayedTasks Fault
+replayed_as tasks live = Ok (record { tasks = tasks; live = live })
 
 module _ {S : Type 0} (program : Program S) (events : List Event) (start : S) (settled : Settled) where
   -- the tasks so far, none of which has a fault
@@ -125,17 +125,17 @@ module _ {S : Type 0} (program : Program S) (lawful : IsLawful program) (events 
   -- the walk stops at the fault of a task, or without memory
   pub fault_walked : (detail : DetailLevel) (kept more : List ExplainedTask) (last : ℕ) (cut : Cut) (state : S) (versions : Settled) (result : Result (ReplayState S) RunFault) (fault : RunFault) → IsCutAfter events last cut → IsNext events last cut.number → HasReached program events start settled last state versions
       → OnFault {A = ReplayState S} (Err fault) (TakesTask detail program cut.track.now (context_of cut) (jobs_at cut.track.now cut.previous cut.number) (numbers_at cut.track.now cut.previous cut.number) cut.number state versions kept more result)
-      → Answers {A = Checked} (Err fault) (walked program events start settled) (λ found. found)
+      → Answers {A = ReplayedTasks} (Err fault) (walked program events start settled) (λ found. found)
   fault_walked detail kept more last cut state versions result (Faulty fault) is n reached t =
       let here = task_here program events last cut state versions t.task is t.explained in
       let known = fault_here events last cut versions t.task (Some fault) is t.ends.fault_is in
-      let found : ReplayResult S → Result Checked Fault = λ _. checked_as (length (cuts events)) (ends_live events) in
+      let found : ReplayResult S → Result ReplayedTasks Fault = λ _. replayed_as (length (cuts events)) (ends_live events) in
       ap (λ r. and_then r found) (ends_here last cut.number state versions t.task fault reached n here known)
   fault_walked detail kept more last cut state versions result OutOfMemory is n reached t = tt
 
   pub fault_kept : (detail : DetailLevel) (kept more : List ExplainedTask) (last : ℕ) (cut : Cut) (state : S) (versions : Settled) (result : Result (ReplayState S) RunFault) (fault : RunFault) → IsCutAfter events last cut → AreDone program events start settled detail kept last state versions
       → OnFault {A = ReplayState S} (Err fault) (TakesTask detail program cut.track.now (context_of cut) (jobs_at cut.track.now cut.previous cut.number) (numbers_at cut.track.now cut.previous cut.number) cut.number state versions kept more result)
-      → OnFault {A = Checked} (Err fault) (λ _. AreKept detail program events start settled more)
+      → OnFault {A = ReplayedTasks} (Err fault) (λ _. AreKept detail program events start settled more)
   fault_kept detail kept more last cut state versions result (Faulty fault) is done t =
       let here = task_here program events last cut state versions t.task is t.explained in
       let known = fault_here events last cut versions t.task (Some fault) is t.ends.fault_is in
@@ -154,5 +154,5 @@ module _ {S : Type 0} (program : Program S) (lawful : IsLawful program) (events 
       → walked program events start settled ≡ Ok (record { tasks = count; live = live })
   walk_ended count last live state versions reached left counted lives =
       let whole = sym reached.same ∙ no_cut program (take last events) [] (drop last events) reached.current (ap first_of left) in
-      let found : ReplayResult S → Result Checked Fault = λ _. checked_as (length (cuts events)) (ends_live events) in
-      ap (λ r. and_then r found) whole ∙ (ap (λ n. checked_as n (ends_live events)) (sym counted) ∙ ap (checked_as count) (sym lives))
+      let found : ReplayResult S → Result ReplayedTasks Fault = λ _. replayed_as (length (cuts events)) (ends_live events) in
+      ap (λ r. and_then r found) whole ∙ (ap (λ n. replayed_as n (ends_live events)) (sym counted) ∙ ap (replayed_as count) (sym lives))

@@ -11,7 +11,6 @@ use Rattle.wh_tester.specs.Verdicts.{IsVerdict}
 use Rattle.wh_explain.specs.declared.explanation.Explanation.{Explanation}
 use Rattle.wh_explain.specs.Differences.{last_difference}
 use Rattle.wh_explain.specs.Explaining.{AreTasksIn}
-use Rattle.wh_tester.specs.UnknownTypes.{unknown_in}
 
 -- the result of reading the bytes of a file: its history, the first fault, or that there was no memory, which is never
 -- the result for a file that is too long
@@ -19,10 +18,8 @@ pub record IsReadOf (bytes : List ℕ) (read : Result (Vec Event Global) ReadFau
   pub exact : Gives (λ events. events.items) read (history bytes)
   pub memory : IfErr read (λ fault. fault ≡ OutOfMemory → length bytes ≤ longest)
 
--- the explanation of a file: its tasks, the workflow type if it is not registered, the verdict on it, and the difference
--- that the tasks end in
+-- the explanation of a file: its tasks, the verdict on it, and the difference that the tasks end in
 pub record IsExplanationIn {S : Type 0} (program : Program S) (bytes : List ℕ) (own : Explanation) : Type 0 where
   pub explained : AreTasksIn program (history bytes) own.tasks
-  pub unknown : own.unknown ≡ unknown_in program (history bytes)
   pub verdict : IsVerdict program bytes own.verdict
   pub difference : own.difference ≡ last_difference own.tasks

@@ -1,7 +1,7 @@
 //! Explanations of histories.
 
 use std::alloc::Global;
-use wh_events::{Items, Text};
+use wh_events::Items;
 use wh_explained_tasks::{ExplainedTask, Pairing};
 use wh_tester::Verdict;
 
@@ -19,8 +19,6 @@ pub(crate) enum DetailLevel {
 pub struct Explanation {
     /// The verdict on the file. Its fault, if there is one, has the place.
     pub verdict: Verdict,
-    /// The workflow type of the history, if it is not registered.
-    pub unknown: Option<Text>,
     /// The command and the event that differ, if the replay stops at a difference.
     pub difference: Option<Pairing>,
     /// The tasks in their order, up to the first that has a fault.
@@ -32,11 +30,10 @@ impl Explanation {
 
     /// Returns an explanation with nothing but a verdict.
     pub fn of_verdict(alloc: Global, verdict: Verdict) -> Explanation
-        ensures { result ≡ record { verdict = verdict; unknown = None; difference = None; tasks = [] } }
+        ensures { result ≡ record { verdict = verdict; difference = None; tasks = [] } }
     {
         Explanation {
             verdict,
-            unknown: None,
             difference: None,
             tasks: Items::new(Vec::new(alloc)),
         }

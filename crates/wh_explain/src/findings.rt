@@ -1,15 +1,14 @@
-//! What the replay of a history file finds: its verdict, the workflow type if it is not registered,
-//! the command and the event that differ, and its tasks.
-ghost use Rattle.std.specs.Prelude.{◌≡◌, ◌≢◌, ◌≤◌, ℕ, List, [], None, Some, Ok, length, true, IfOk, IfErr, IfSome, IsSome};
-ghost use Rattle.wh_json.specs.Events.{history, longest};
+//! What the replay of a history file finds: its verdict, the command and the event that differ, and
+//! its tasks.
+ghost use Rattle.std.specs.Prelude.{◌≡◌, ◌≢◌, ◌≤◌, ℕ, List, [], None, Ok, length, true, IfOk, IfErr, IsSome};
+ghost use Rattle.wh_json.specs.Events.{longest};
 ghost use Rattle.wh_json.specs.declared.fault.ReadFault.TheVariants.{OutOfMemory as ReadMemory};
 ghost use Rattle.wh_replay.specs.Replays.{workflow_of};
-ghost use Rattle.wh_replay.specs.declared.fault.Fault.TheVariants.{Mismatch as Mismatched, Workflow as WorkflowFaulty};
+ghost use Rattle.wh_replay.specs.declared.fault.Fault.TheVariants.{Mismatch as Mismatched};
 ghost use Rattle.wh_workflow.specs.declared.fault.Mismatch.{Mismatch};
-ghost use Rattle.wh_workflow.specs.declared.fault.WorkflowFault.TheVariants.{UnknownWorkflow};
 ghost use Rattle.wh_tester.specs.Verdicts.{IsVerdict};
 ghost use Rattle.wh_explain.specs.Differences.{IsDifferenceIn, if_differs, last_difference, last_of};
-ghost use Rattle.wh_tester.specs.UnknownTypes.{unknown_in, unknown_placed};
+ghost use Rattle.wh_tester.specs.UnknownTypes.{unknown_placed};
 ghost use Rattle.wh_explain.specs.Reading.{IsExplanationIn, IsReadOf};
 ghost use Rattle.wh_explain.specs.Private.Findings.{IsFoundIn, IsFoundOf, IsFoundPlaced};
 
@@ -17,33 +16,13 @@ use crate::explanation::{DetailLevel, Explanation};
 use crate::pairing::differs;
 use crate::walk::walk_tasks;
 use std::alloc::Global;
-use wh_events::{Event, Items, OutOfMemory, Text};
+use wh_events::{Event, Items, OutOfMemory};
 use wh_explained_tasks::{Ending, ExplainedTask, Pairing};
 use wh_json::{ReadFault, read_events};
 use wh_machines::Track;
-use wh_replay::{Fault, RunFault, start, track_of, workflow_of};
+use wh_replay::{RunFault, start, track_of, workflow_of};
 use wh_tester::{Verdict, unknown_type};
-use wh_workflow::{Workflow, WorkflowFault};
-
-/// Returns the explanation of a history whose workflow type is not registered.
-fn no_code(alloc: Global, kind: Text) -> Explanation
-    ensures { result ≡ record {
-      verdict = Verdict.Faulty (WorkflowFaulty 1 UnknownWorkflow);
-      unknown = Some kind;
-      difference = None;
-      tasks = [];
-    } }
-{
-    Explanation {
-        verdict: Verdict::Faulty(Fault::Workflow {
-            at: 1,
-            fault: WorkflowFault::UnknownWorkflow,
-        }),
-        unknown: Some(kind),
-        difference: None,
-        tasks: Items::new(Vec::new(alloc)),
-    }
-}
+use wh_workflow::Workflow;
 
 /// Copies the last pairing, if the command differs from the record in it.
 fn last_differing(pairings: &[Pairing]) -> Result<Option<Pairing>, OutOfMemory>
@@ -76,7 +55,6 @@ fn last_difference(tasks: &[ExplainedTask]) -> Result<Option<Pairing>, OutOfMemo
 fn explanation_of(verdict: Verdict, tasks: Vec<ExplainedTask>) -> Result<Explanation, OutOfMemory>
     ensures { IfOk result (λ own. own ≡ record {
       verdict = verdict;
-      unknown = None;
       difference = last_difference tasks.items;
       tasks = tasks.items;
     }) }
@@ -84,7 +62,6 @@ fn explanation_of(verdict: Verdict, tasks: Vec<ExplainedTask>) -> Result<Explana
     let difference = last_difference(tasks.as_slice())?;
     Ok(Explanation {
         verdict,
-        unknown: None,
         difference,
         tasks: Items::new(tasks),
     })
@@ -104,7 +81,7 @@ fn find_with_code<W: Workflow>(
     let first = start::<W>(alloc, kind)?;
     let mut tasks = Vec::new(alloc);
     match walk_tasks::<W>(alloc, detail, track, first, &mut tasks) {
-        Ok(checked) => explanation_of(Verdict::Good(checked), tasks),
+        Ok(replayed_tasks) => explanation_of(Verdict::Good(replayed_tasks), tasks),
         Err(RunFault::Fault(fault)) => explanation_of(Verdict::Faulty(fault), tasks),
         Err(RunFault::OutOfMemory) => Err(OutOfMemory),
     }
@@ -120,7 +97,7 @@ fn find_in_track<W: Workflow>(
     ensures { IfOk result (IsFoundPlaced detail W.program (Ok track.now)) }
 {
     match unknown_type::<W>(alloc, track) {
-        Ok(Some(kind)) => Ok(no_code(alloc, kind)),
+        Ok(Some(kind)) => Ok(Explanation::of_verdict(alloc, Verdict::NoCode { kind })),
         Ok(None) => find_with_code::<W>(alloc, detail, track),
         Err(full) => Err(full),
     }
@@ -145,7 +122,7 @@ fn find_in_events<W: Workflow>(
 /// Returns the explanation of a file that can't be read, if there was memory to read it.
 fn explanation_by(alloc: Global, fault: ReadFault) -> Result<Explanation, OutOfMemory>
     ensures exact { IfOk result (λ own.
-        own ≡ record { verdict = Verdict.Unreadable fault; unknown = None; difference = None; tasks = [] }) }
+        own ≡ record { verdict = Verdict.Unreadable fault; difference = None; tasks = [] }) }
     ensures known { IfOk result (λ _. fault ≢ ReadMemory) }
     ensures memory { IfErr result (λ _. fault ≡ ReadMemory) }
 {
@@ -200,16 +177,14 @@ fn without_tasks(alloc: Global, explanation: Explanation) -> Explanation
 }
 
 /// Replays a history file with the code of `W`, and returns what it finds, without the tasks: the
-/// verdict of `wh_tester::verdict`, the workflow type if it is not registered, and the command and
-/// the event that differ, if they do. These are the last pairing of the last task that `explain`
-/// returns. The file is parsed once, and its history is replayed at most once.
+/// verdict of `wh_tester::verdict`, and the command and the event that differ, if they do. These are
+/// the last pairing of the last task that `explain` returns. The file is parsed once, and its history
+/// is replayed at most once.
 ///
 /// `Verdict::OutOfMemory` can replace any verdict but that of a file that is too long. Nothing else
 /// is found then.
-pub fn check_file<W: Workflow>(alloc: Global, bytes: &[u8]) -> Explanation
+pub fn replay_file<W: Workflow>(alloc: Global, bytes: &[u8]) -> Explanation
     ensures verdict { IsVerdict W.program bytes.now result.verdict }
-    ensures unknown { result.verdict ≢ Verdict.OutOfMemory → result.unknown ≡ unknown_in W.program (history bytes.now) }
-    ensures named { IfSome result.unknown (λ kind. unknown_in W.program (history bytes.now) ≡ Some kind) }
     ensures difference { result.verdict ≢ Verdict.OutOfMemory → IsDifferenceIn W.program bytes.now result.difference }
     ensures found { (at : ℕ) (mismatch : Mismatch) → result.verdict ≡ Verdict.Faulty (Mismatched at mismatch)
         → IsSome result.difference }
@@ -235,10 +210,9 @@ pub fn explain_read<W: Workflow>(
 }
 
 /// Explains the replay of a history file with the code of `W`. Returns the verdict of
-/// `wh_tester::verdict`, the workflow type if it is not registered, the command and the event that
-/// differ, if they do, and the tasks in their order, up to the first that has a fault, each with the
-/// jobs that the workflow was given, the commands that it gave, and the recorded events beside those
-/// that are sent. There are no tasks if the file can't be read, if an event is not in place, or if
+/// `wh_tester::verdict`, the command and the event that differ, if they do, and the tasks in their
+/// order, up to the first that has a fault, each with the jobs that the workflow was given, the
+/// commands that it gave, and the recorded events beside those that are sent. There are no tasks if the file can't be read, if an event is not in place, or if
 /// the workflow type is not registered. The file is parsed once, and its history is replayed at most
 /// once. Returns `OutOfMemory` if an allocation was refused, but never for a file that is too long.
 pub fn explain<W: Workflow>(alloc: Global, bytes: &[u8]) -> Result<Explanation, OutOfMemory>

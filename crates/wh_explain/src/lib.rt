@@ -11,7 +11,7 @@ mod stepping;
 mod walk;
 
 pub use explanation::Explanation;
-pub use findings::{check_file, explain, explain_read};
+pub use findings::{explain, explain_read, replay_file};
 pub use numbers::{left_after, number_of};
 pub use pairing::differs;
 pub use wh_explained_tasks::{Ending, ExplainedTask, Pairing, RecordedEvent, Step};

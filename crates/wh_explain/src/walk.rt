@@ -1,12 +1,10 @@
 //! Goes over the tasks of a history, each with the steps of its activation and with its record.
 ghost use Rattle.std.specs.Prelude.{◌≡◌, List, [], IfOk, OnOk};
-ghost use Rattle.wh_events.specs.Cuts.{commanded};
 ghost use Rattle.wh_activation.specs.Cutting.{jobs_at};
 ghost use Rattle.wh_workflow.specs.ActivationScripts.{Step};
-ghost use Rattle.wh_workflow.specs.Names.{mismatch};
 ghost use Rattle.wh_replay.specs.Activating.{IsWithin};
-ghost use Rattle.wh_replay.specs.Checks.{Answers};
-ghost use Rattle.wh_replay.specs.Views.{IsSpan, context_of, span_events};
+ghost use Rattle.wh_replay.specs.Outcomes.{Answers};
+ghost use Rattle.wh_replay.specs.Views.{context_of};
 ghost use Rattle.wh_explain.specs.Explaining.{sent_ending, unless_refused};
 ghost use Rattle.wh_explain.specs.Numbers.{numbers_at};
 ghost use Rattle.wh_explain.specs.Private.Stepping.{Keeps};
@@ -22,19 +20,10 @@ use wh_activation::jobs;
 use wh_events::{Items, OutOfMemory};
 use wh_explained_tasks::{Ending, ExplainedTask, Step};
 use wh_machines::Track;
-use wh_match::matches;
 use wh_replay::{
-    Activation, Checked, Cut, Fault, ReplayState, RunFault, Span, cut_after, sent_state,
+    Activation, Cut, Fault, ReplayState, ReplayedTasks, RunFault, cut_after, sent_state,
 };
 use wh_workflow::{Command, Mismatch, Workflow, WorkflowFault};
-
-/// Returns the first difference between the commands that are sent and the record in a span.
-fn first_mismatch(cut: &Cut, sent: &[Command], span: Span) -> Option<Mismatch>
-    requires { IsSpan cut.now.track.now span }
-    ensures { result ≡ mismatch cut.now.track.now sent.now (commanded (span_events cut.now.track.now span)) }
-{
-    matches(sent, cut.track, span.from, span.to).err()
-}
 
 /// Returns the first difference between the commands that a task sends and its record, if it is
 /// recorded.
@@ -43,7 +32,7 @@ fn mismatch_with(cut: &Cut, sent: &[Command]) -> Option<Mismatch>
     ensures { result ≡ mismatch_with cut.now.track.now sent.now (context_of cut.now).recorded }
 {
     match cut.span {
-        Some(span) => first_mismatch(cut, sent, span),
+        Some(span) => cut.difference(sent, span),
         None => None,
     }
 }
@@ -209,9 +198,9 @@ pub(crate) fn walk_tasks<W: Workflow>(
     track: &Track,
     mut left: ReplayState<W::State>,
     tasks: &mut Vec<ExplainedTask>,
-) -> Result<Checked, RunFault>
+) -> Result<ReplayedTasks, RunFault>
     requires { tasks.old.items ≡ [] }
-    ensures checked { Answers result (walked W.program track.now left.state left.versions) (λ found. found) }
+    ensures replayed_tasks { Answers result (walked W.program track.now left.state left.versions) (λ found. found) }
     ensures tasks { OnFault result (λ _.
         AreKept detail W.program track.now left.state left.versions tasks.new.items) }
 {
@@ -226,5 +215,5 @@ pub(crate) fn walk_tasks<W: Workflow>(
         live |= cut.span.is_none();
         last = cut.number.get();
     }
-    Ok(Checked { tasks: count, live })
+    Ok(ReplayedTasks { tasks: count, live })
 }

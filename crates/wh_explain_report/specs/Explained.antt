@@ -1,8 +1,9 @@
 -- What a file that is explained gives.
-use Rattle.std.specs.Prelude.{◌≡◌, ℕ, List, [], ◌++◌, Option, Some, None, if◌then◌else◌, unwrap_or}
+use Rattle.std.specs.Prelude.{◌≡◌, ℕ, Bool, true, false, List, [], ◌++◌, Option, Some, None, if◌then◌else◌, unwrap_or}
 use Rattle.std.specs.Io.KnownBytes.{Appends}
 use Rattle.wh_workflow.specs.Law.{Program}
 use Rattle.wh_tester.specs.Report.{all_good, line_text}
+use Rattle.wh_tester.specs.UnknownTypes.{is_no_code}
 use Rattle.wh_tester.specs.declared.line.Line.{Line}
 use Rattle.wh_explain.specs.Reading.{IsExplanationIn}
 use Rattle.wh_explain_report.specs.Json.{json_explanation, last_object}
@@ -46,9 +47,9 @@ explained_as selection format explanation line view =
     ++ (line_as format line explanation.difference ++ viewed_as selection format view)
 
 -- there is a view of the bytes if the workflow type is not registered
-abbrev pub IsViewedIf : Option (List ℕ) → List ℕ → Option View → Type 0
-IsViewedIf None bytes view = view ≡ None
-IsViewedIf (Some kind) bytes view = (own : View) × (view ≡ Some own) × IsViewIn bytes own
+abbrev pub IsViewedIf : (uncoded : Bool) → List ℕ → Option View → Type 0
+IsViewedIf false bytes view = view ≡ None
+IsViewedIf true bytes view = (own : View) × (view ≡ Some own) × IsViewIn bytes own
 
 -- a file was explained, and this is its line in the report of replay: its explanation was written, with this line, and
 -- with what is recorded in the file if its workflow type is not registered
@@ -59,7 +60,7 @@ pub record IsExplained {S : Type 0} (program : Program S) (name bytes : List ℕ
   pub found : IsExplanationIn program bytes explanation
   pub named : own.name ≡ name
   pub verdict : own.verdict ≡ explanation.verdict
-  pub viewed : IsViewedIf explanation.unknown bytes view
+  pub viewed : IsViewedIf (is_no_code explanation.verdict) bytes view
   pub written : Appends old new (explained_as selection format explanation own view)
 
 -- 0 if each file is good, and else 1

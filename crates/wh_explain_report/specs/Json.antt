@@ -6,6 +6,7 @@ use Rattle.wh_workflow.specs.declared.job.Job.{Job}
 use Rattle.wh_workflow.specs.ActivationScripts.{Step}
 use Rattle.wh_tester.specs.Report.{shown}
 use Rattle.wh_tester.specs.Json.{text_member}
+use Rattle.wh_tester.specs.UnknownTypes.{unregistered_type}
 use Rattle.wh_explained_tasks.specs.declared.Pairing.{Pairing}
 use Rattle.wh_explained_tasks.specs.declared.Ending.{Ending}
 use Rattle.wh_explained_tasks.specs.declared.Ending.TheVariants.{Refused, Live, Recorded}
@@ -75,4 +76,4 @@ last_object line difference = json_line_with line (difference_members difference
 -- the explanation: the workflow type, if it is not registered, and the tasks that are selected, or all, in their order
 unfoldable pub json_explanation : Option Selection → Explanation → List ℕ
 json_explanation selection explanation =
-    unknown_object explanation.unknown ++ flat_map task_objects (selected_or_all selection explanation.tasks)
+    unknown_object (unregistered_type explanation.verdict) ++ flat_map task_objects (selected_or_all selection explanation.tasks)

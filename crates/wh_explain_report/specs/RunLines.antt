@@ -5,7 +5,7 @@ use Rattle.wh_view.specs.Runs.{closing_in, status_of}
 use Rattle.wh_view.specs.declared.view.View.{View}
 use Rattle.wh_view_report.specs.Cut.{cut}
 use Rattle.wh_view_report.specs.Run.{run_span}
-use Rattle.wh_view_report.specs.Spans.{span_text_of}
+use Rattle.wh_html.specs.Times.{span_text}
 use Rattle.wh_explain_report.specs.RunFacts.{cause_message, cause_type, most_attempts, start_moment, start_type, status_phrase}
 
 -- a text between two others; nothing if it is empty
@@ -22,7 +22,7 @@ head_text view =
 -- how long a run took, if it is closed and that is known
 abbrev pub lasted_text : Option ℕ → List ℕ
 lasted_text None = []
-lasted_text (Some millis) = codes ", lasted " ++ span_text_of millis
+lasted_text (Some millis) = codes ", lasted " ++ span_text millis
 
 -- when a run started, and how long it took
 abbrev pub times_text : View → List ℕ

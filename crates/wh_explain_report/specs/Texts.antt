@@ -6,7 +6,7 @@ use Rattle.wh_workflow.specs.declared.job.Job.{Job}
 use Rattle.wh_workflow.specs.ActivationScripts.{Step}
 use Rattle.wh_workflow.specs.Jobs.{job_phrase}
 use Rattle.wh_workflow.specs.Names.{command_phrase}
-use Rattle.wh_tester.specs.Report.{shown}
+use Rattle.wh_tester.specs.Report.{no_code_text}
 use Rattle.wh_explained_tasks.specs.declared.Pairing.{Pairing}
 use Rattle.wh_explained_tasks.specs.declared.Ending.{Ending}
 use Rattle.wh_explained_tasks.specs.declared.Ending.TheVariants.{Refused, Live, Recorded}
@@ -80,4 +80,4 @@ task_text task =
 -- `no code for the workflow type NAME`, if it is not registered, with the name shown as names in reports are
 abbrev pub unknown_line : Option (List ℕ) → List ℕ
 unknown_line None = []
-unknown_line (Some kind) = codes "no code for the workflow type " ++ (shown kind ++ 10 ∷ [])
+unknown_line (Some kind) = no_code_text kind ++ codes "\n"

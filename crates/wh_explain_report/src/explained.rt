@@ -2,6 +2,7 @@
 
 ghost use Rattle.std.specs.Prelude.{◌≡◌, ◌≢◌, ◌∷◌, ◌++◌, [], Err, IfErr, IfOk, OnOk, string_bytes};
 ghost use Rattle.std.specs.Io.KnownBytes.{Appends};
+ghost use Rattle.wh_tester.specs.UnknownTypes.{is_no_code};
 ghost use Rattle.wh_explain_report.specs.Explained.{IsExplained, IsViewedIf, explained_as, explanation_as, line_as, status_of, view_as, viewed_as};
 
 use crate::json_lines::{write_json_explanation, write_last};
@@ -13,7 +14,7 @@ use wh_console::Format;
 use wh_events::Text;
 use wh_explain::{Explanation, Pairing, explain};
 use wh_file_faults::CommandFault;
-use wh_tester::{Line, is_good, write_line};
+use wh_tester::{Line, Verdict, is_good, is_no_code, write_line};
 use wh_view::{View, view_of};
 use wh_view_json::write_json_view;
 use wh_view_report::{Selection, write_view};
@@ -73,13 +74,13 @@ pub fn write_view_as<O: Write>(
 /// What is recorded in a file, if its workflow type is not registered.
 fn view_unregistered(
     alloc: Global,
-    unknown: &Option<Text>,
+    verdict: &Verdict,
     bytes: &[u8],
 ) -> Result<Option<View>, CommandFault>
-    ensures viewed { IfOk result (IsViewedIf unknown.now bytes.now) }
+    ensures viewed { IfOk result (IsViewedIf (is_no_code verdict.now) bytes.now) }
     ensures memory { IfErr result (λ fault. fault ≡ CommandFault.OutOfMemory) }
 {
-    if unknown.is_none() {
+    if !is_no_code(verdict) {
         return Ok(None);
     }
     match view_of(alloc, bytes) {
@@ -175,7 +176,7 @@ pub fn explain_file<W: Workflow, O: Write>(
     let Ok(explanation) = explain::<W>(alloc, bytes) else {
         return Err(CommandFault::OutOfMemory);
     };
-    let view = view_unregistered(alloc, &explanation.unknown, bytes)?;
+    let view = view_unregistered(alloc, &explanation.verdict, bytes)?;
     write_explained(name, explanation, view, selection, format, writer)
 }
 

@@ -7,17 +7,18 @@ ghost use Rattle.wh_explain_report.specs.Texts.{last_command, steps_as};
 ghost use Rattle.wh_explain_report.specs.Json.{gives_object, refuses_object, number_member, told_object};
 ghost use Rattle.wh_explain_report.specs.Json.{step_objects, sends_object, pairing_object};
 ghost use Rattle.wh_explain_report.specs.Json.{ending_objects, task_objects, unknown_object, last_object};
+ghost use Rattle.wh_tester.specs.UnknownTypes.{unregistered_type};
 ghost use Rattle.wh_explain_report.specs.Json.{json_explanation};
 
 use crate::selection::selected_or_all;
 use std::io::Write;
 use std::{fmt, io};
-use wh_events::{EventNo, Text};
+use wh_events::EventNo;
 use wh_explain::{
     Ending, ExplainedTask, Explanation, Pairing, Step, differs, left_after, number_of,
 };
 use wh_phrases::{CommandJson, DifferenceMembers, JobJson, PairingMembers};
-use wh_tester::{EscapedName, Line, write_open_json_line};
+use wh_tester::{EscapedName, Line, Verdict, unregistered_type, write_open_json_line};
 use wh_view_report::Selection;
 use wh_workflow::{Command, Job};
 
@@ -40,13 +41,11 @@ impl fmt::Display for UnknownObject<'_> {
 }
 
 /// Writes the object of the workflow type, if it is not registered.
-fn write_unknown<O: Write>(unknown: &Option<Text>, writer: &mut O) -> io::Result<()>
-    ensures { OnOk result (Appends (O.contents writer.old) (O.contents writer.new) (unknown_object unknown.now)) }
+fn write_unknown<O: Write>(verdict: &Verdict, writer: &mut O) -> io::Result<()>
+    ensures { OnOk result (Appends (O.contents writer.old) (O.contents writer.new)
+        (unknown_object (unregistered_type verdict.now))) }
 {
-    let line = match unknown {
-        Some(kind) => UnknownObject(Some(kind.get())),
-        None => UnknownObject(None),
-    };
+    let line = UnknownObject(unregistered_type(verdict));
     write!(writer, "{line}")
 }
 
@@ -233,6 +232,6 @@ pub(crate) fn write_json_explanation<O: Write>(
     ensures { OnOk result
         (Appends (O.contents writer.old) (O.contents writer.new) (json_explanation selection explanation.now)) }
 {
-    write_unknown(&explanation.unknown, writer)?;
+    write_unknown(&explanation.verdict, writer)?;
     write_tasks(selected_or_all(selection, explanation.tasks.get()), writer)
 }

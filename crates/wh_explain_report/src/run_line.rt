@@ -9,9 +9,10 @@ use crate::run_facts::{
 };
 use std::io::Write;
 use std::{fmt, io};
+use wh_html::SpanText;
 use wh_tester::Shown;
 use wh_view::View;
-use wh_view_report::{Excerpt, SpanText, run_span};
+use wh_view_report::{Excerpt, run_span};
 
 /// A text between two others; nothing if it is empty.
 #[derive(Drop)]

@@ -8,16 +8,17 @@ ghost use Rattle.wh_explain_report.specs.Texts.{refuses_line, sends_line};
 ghost use Rattle.wh_explain_report.specs.Texts.{ending_text, number_text, step_text, steps_as, task_text, told_line};
 ghost use Rattle.wh_explain_report.specs.Explanations.{explanation_text};
 ghost use Rattle.wh_explain_report.specs.Texts.{unknown_line};
+ghost use Rattle.wh_tester.specs.UnknownTypes.{unregistered_type};
 
 use crate::tasks::write_chosen;
 use std::io::Write;
 use std::{fmt, io};
-use wh_events::{EventNo, Text};
+use wh_events::EventNo;
 use wh_explain::{
     Ending, ExplainedTask, Explanation, Pairing, Step, differs, left_after, number_of,
 };
 use wh_phrases::{PhraseText, SendsText, SidesText};
-use wh_tester::{Shown, is_good};
+use wh_tester::{NoCodeText, Verdict, is_good, unregistered_type};
 use wh_view_report::Selection;
 use wh_workflow::{Command, Job};
 
@@ -38,8 +39,8 @@ impl fmt::Display for UnknownLine<'_> {
     fn fmt<W: fmt::Write>(&self, f: &mut fmt::Formatter<W>) -> fmt::Result {
         match self.0 {
             Some(kind) => {
-                let kind = Shown(kind);
-                write!(f, "no code for the workflow type {kind}\n")
+                let text = NoCodeText(kind);
+                write!(f, "{text}\n")
             }
             None => Ok(()),
         }
@@ -47,13 +48,11 @@ impl fmt::Display for UnknownLine<'_> {
 }
 
 /// Writes the line of the workflow type, if it is not registered.
-fn write_unknown<O: Write>(unknown: &Option<Text>, writer: &mut O) -> io::Result<()>
-    ensures { OnOk result (Appends (O.contents writer.old) (O.contents writer.new) (unknown_line unknown.now)) }
+fn write_unknown<O: Write>(verdict: &Verdict, writer: &mut O) -> io::Result<()>
+    ensures { OnOk result (Appends (O.contents writer.old) (O.contents writer.new)
+        (unknown_line (unregistered_type verdict.now))) }
 {
-    let line = match unknown {
-        Some(kind) => UnknownLine(Some(kind.get())),
-        None => UnknownLine(None),
-    };
+    let line = UnknownLine(unregistered_type(verdict));
     write!(writer, "{line}")
 }
 
@@ -220,7 +219,7 @@ pub(crate) fn write_explanation<O: Write>(
     ensures { OnOk result
         (Appends (O.contents writer.old) (O.contents writer.new) (explanation_text selection explanation.now)) }
 {
-    write_unknown(&explanation.unknown, writer)?;
+    write_unknown(&explanation.verdict, writer)?;
     let good = is_good(&explanation.verdict);
     write_chosen(selection, good, explanation.tasks.get(), writer)
 }

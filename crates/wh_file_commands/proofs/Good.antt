@@ -1,5 +1,5 @@
 -- A file whose replay has no fault: what is found of it, and its record.
-use Rattle.std.proofs.Common.{◌≡◌, ◌∙◌, ℕ, Bool, true, false, ◌||◌, cond, List, [], ◌∷◌, Option, Some, None, Result, Ok, Err, refl, sym, ap, subst, arith}
+use Rattle.std.proofs.Common.{◌≡◌, ◌∙◌, ℕ, Bool, true, false, ◌||◌, cond, List, [], ◌∷◌, length, Option, Some, None, Result, Ok, Err, refl, sym, ap, subst, arith}
 use Rattle.std.specs.Prelude.{IfSome, string_bytes}
 use Rattle.std.specs.Result.{result_ok}
 use Rattle.std.specs.List.{list_any}
@@ -8,7 +8,6 @@ use Rattle.wh_events.specs.Cuts.{cuts}
 use Rattle.wh_events.specs.Machines.{machines_of}
 use Rattle.wh_events.specs.Places.{history_fault}
 use Rattle.wh_events.specs.declared.event.Event.{Event}
-use Rattle.wh_events.specs.declared.event.Payload.{Payload}
 use Rattle.wh_events.specs.declared.place.PlaceFault.{PlaceFault}
 use Rattle.wh_json.specs.Events.{history}
 use Rattle.wh_json.specs.declared.fault.ReadFault.{ReadFault}
@@ -19,10 +18,10 @@ use Rattle.wh_workflow.specs.Law.{Program, IsLawful}
 use Rattle.wh_workflow.specs.Scripts.{Settled}
 use Rattle.wh_workflow.proofs.Following.{whole_meets}
 use Rattle.wh_workflow.proofs.Scripting.{longest_in_words}
-use Rattle.wh_replay.specs.declared.fault.Checked.{Checked}
+use Rattle.wh_replay.specs.declared.fault.ReplayedTasks.{ReplayedTasks}
 use Rattle.wh_replay.specs.declared.fault.Fault.{Fault}
-use Rattle.wh_replay.specs.Checks.{checked}
-use Rattle.wh_replay.specs.Replays.{ReplayResult, Replayed, replay, replay_after, replay_known, replay_placed, replay_tasks, start, with_machines, workflow_of}
+use Rattle.wh_replay.specs.Outcomes.{replayed_tasks, ends_live}
+use Rattle.wh_replay.specs.Replays.{ReplayResult, replay_after, replay_known, replay_placed, replay_tasks, start, with_machines, workflow_of}
 use Rattle.wh_replay.specs.Tracking.{in_place}
 use Rattle.wh_replay.specs.Views.{context_after}
 use Rattle.wh_explained_tasks.specs.declared.Ending.{Ending}
@@ -38,36 +37,11 @@ use Rattle.wh_explain.proofs.Agreeing.{ends_as_replay}
 use Rattle.wh_explain.proofs.Found.{last_more}
 use Rattle.wh_explain.proofs.Tasks.{told_plain}
 use Rattle.wh_file_faults.specs.Faults.{File}
-use Rattle.wh_query.specs.Queries.{query_at}
-use Rattle.wh_workflow.specs.Queries.{Queries, result_in}
-use Rattle.wh_workflow.specs.declared.queryable.QueryResult.{QueryResult}
 use Rattle.wh_report.specs.Records.{IsRecordOf}
 use Rattle.wh_report.specs.declared.records.Record.{Record}
-use Rattle.wh_tester.specs.Verdicts.{judged, read_and_judged, verdict_on}
-use Rattle.wh_file_commands.specs.Checked.{checked_in, checked_read, good_record, tasks_in}
-
--- ---- what the replay for a query finds
-
-module _ {S : Type 0} where
-  found_by : (queries : Queries S) (query_type : List ℕ) (input : List Payload) (replayed : Result (Replayed S) Fault) (found : Checked) (given : QueryResult)
-      → and_then (and_then replayed (λ left. Ok left.state)) (λ state. Ok (result_in queries state query_type input)) ≡ Ok given → Some found ≡ result_ok (and_then replayed (λ _. Ok found))
-  found_by queries query_type input (Ok left) found given is = refl
-  found_by queries query_type input (Err fault) found given is = absurd (cc)
-
-  none_by : (queries : Queries S) (query_type : List ℕ) (input : List Payload) (replayed : Result (Replayed S) Fault) (found : Checked) (fault : Fault)
-      → and_then (and_then replayed (λ left. Ok left.state)) (λ state. Ok (result_in queries state query_type input)) ≡ Err fault → None ≡ result_ok (and_then replayed (λ _. Ok found))
-  none_by queries query_type input (Ok left) found fault is = absurd (cc)
-  none_by queries query_type input (Err other) found fault is = refl
-
-  -- if a query gives something, replay finds the tasks of the history
-  pub found_where : (program : Program S) (queries : Queries S) (events : List Event) (query_type : List ℕ) (input : List Payload) (given : QueryResult) (found : Checked)
-      → query_at program queries events query_type input ≡ Ok given → found ≡ tasks_in events → Some found ≡ result_ok (checked program events)
-  found_where program queries events query_type input given found is same = ap Some same ∙ found_by queries query_type input (replay program events 0) (tasks_in events) given is
-
-  -- and if not it finds none
-  pub none_found : (program : Program S) (queries : Queries S) (events : List Event) (query_type : List ℕ) (input : List Payload) (fault : Fault)
-      → query_at program queries events query_type input ≡ Err fault → None ≡ result_ok (checked program events)
-  none_found program queries events query_type input fault is = none_by queries query_type input (replay program events 0) (tasks_in events) fault is
+use Rattle.wh_tester.proofs.Judging.{good_judged}
+use Rattle.wh_tester.specs.Verdicts.{read_and_judged, verdict_on}
+use Rattle.wh_file_commands.specs.GoodFiles.{tasks_in_file, tasks_read, good_record}
 
 -- ---- the tasks of a history
 
@@ -122,7 +96,7 @@ no_difference tasks go_on = by (last_of tasks) (last_fails (λ task. stops task.
 
 -- ---- a history whose replay has no fault
 
-some_ok : (result : Result Checked Fault) (found : Checked) → Some found ≡ result_ok result → result ≡ Ok found
+some_ok : (result : Result ReplayedTasks Fault) (found : ReplayedTasks) → Some found ≡ result_ok result → result ≡ Ok found
 some_ok (Ok other) found is = (let same : other ≡ found = cc in ap Ok same)
 some_ok (Err fault) found is = absurd (cc)
 
@@ -132,7 +106,7 @@ module _ {S : Type 0} where
   placed_known None false replayed left is = absurd (cc)
   placed_known (Some fault) knows replayed left is = absurd (cc)
 
-  tasks_left : (events : List Event) (result : Result (ReplayResult S) Fault) (tasks found : Checked) → and_then (and_then result (λ left. Ok (with_machines (machines_of events) left))) (λ _. Ok tasks) ≡ Ok found
+  tasks_left : (events : List Event) (result : Result (ReplayResult S) Fault) (tasks found : ReplayedTasks) → and_then (and_then result (λ left. Ok (with_machines (machines_of events) left))) (λ _. Ok tasks) ≡ Ok found
       → (left : ReplayResult S) × (result ≡ Ok left)
   tasks_left events (Ok left) tasks found is = (left, refl)
   tasks_left events (Err fault) tasks found is = absurd (cc)
@@ -145,10 +119,10 @@ module _ {S : Type 0} (program : Program S) where
     left : ReplayResult S
     leaves : replay_tasks program events 0 ≡ Ok left
 
-  replayed_where : (events : List Event) (found : Checked) → checked program events ≡ Ok found → IsReplayed events
+  replayed_where : (events : List Event) (found : ReplayedTasks) → replayed_tasks program events ≡ Ok found → IsReplayed events
   unfolding replay_tasks
   replayed_where events found is =
-      let left = tasks_left events (replay_tasks program events 0) (tasks_in events) found is in
+      let left = tasks_left events (replay_tasks program events 0) (record { tasks = length (cuts events); live = ends_live events }) found is in
       let both = placed_known (history_fault events) (program.knows (workflow_of events)) (replay_after program [] [] events (start program (workflow_of events) 0)) left.0 left.1 in
       record { placed = both.0; known = both.1; left = left.0; leaves = left.1 }
 
@@ -164,11 +138,11 @@ module _ {S : Type 0} (program : Program S) where
 
   -- ---- the record of a file
 
-  found_read : (read : Result (List Event) ReadFault) (found : Checked) → Some found ≡ checked_read program read → (events : List Event) × (read ≡ Ok events) × (checked program events ≡ Ok found)
+  found_read : (read : Result (List Event) ReadFault) (found : ReplayedTasks) → Some found ≡ tasks_read program read → (events : List Event) × (read ≡ Ok events) × (replayed_tasks program events ≡ Ok found)
   found_read (Err fault) found is = absurd (cc)
-  found_read (Ok events) found is = (events, refl, some_ok (checked program events) found is)
+  found_read (Ok events) found is = (events, refl, some_ok (replayed_tasks program events) found is)
 
-  of_good : (lawful : IsLawful program) (file : File) (found : Checked) (events : List Event) → history file.1.items ≡ Ok events → checked program events ≡ Ok found → IsRecordOf NO_OPTIONS program file (good_record (string_bytes file.0) found)
+  of_good : (lawful : IsLawful program) (file : File) (found : ReplayedTasks) (events : List Event) → history file.1.items ≡ Ok events → replayed_tasks program events ≡ Ok found → IsRecordOf NO_OPTIONS program file (good_record (string_bytes file.0) found)
   unfolding verdict_on
   of_good lawful file found events read is =
       let own = replayed_where events found is in
@@ -177,7 +151,7 @@ module _ {S : Type 0} (program : Program S) where
         line = record {
           name = refl;
           verdict = record {
-            exact = λ _. sym (ap (read_and_judged program) read ∙ ap judged is);
+            exact = λ _. good_judged program events found is ∙ sym (ap (read_and_judged program) read);
             memory = λ other. absurd (cc);
             read = λ other. absurd (cc);
           };
@@ -189,7 +163,7 @@ module _ {S : Type 0} (program : Program S) where
       }
 
   -- a file of which replay finds this has this record
-  pub good_is_record : IsLawful program → (file : File) (found : Checked) (own : Record) → Some found ≡ checked_in program file.1.items → own ≡ good_record (string_bytes file.0) found → IsRecordOf NO_OPTIONS program file own
+  pub good_is_record : IsLawful program → (file : File) (found : ReplayedTasks) (own : Record) → Some found ≡ tasks_in_file program file.1.items → own ≡ good_record (string_bytes file.0) found → IsRecordOf NO_OPTIONS program file own
   good_is_record lawful file found own is same =
       let there = found_read (history file.1.items) found is in
       subst (IsRecordOf NO_OPTIONS program file) (sym same) (of_good lawful file found there.0 there.1 there.2)

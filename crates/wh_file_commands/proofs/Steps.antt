@@ -7,7 +7,8 @@ use Rattle.wh_console.specs.Consoles.{ConsoleView, IsQuiet, Printed, Reported}
 use Rattle.wh_console.specs.declared.format.Format.{Format}
 use Rattle.wh_file_faults.specs.DetailTexts.{detail_lines}
 use Rattle.wh_report.specs.Notes.{record_lines}
-use Rattle.wh_diagnostics.specs.KnownTypes.{known_types_text, lacks_code}
+use Rattle.wh_diagnostics.specs.KnownTypes.{known_types_text}
+use Rattle.wh_tester.specs.UnknownTypes.{is_no_code}
 use Rattle.wh_diagnostics.specs.Printing.{HasPrinted}
 use Rattle.wh_diagnostics.specs.declared.failures.Failure.{Failure}
 use Rattle.wh_file_commands.specs.Explanations.{HasExplained}
@@ -71,7 +72,7 @@ pub query_ended : {S : Type 0} (program : Program S) (queries : Queries S) (type
     → IsQueried program queries file query queried → Printed old first (queried_as format queried)
     → IsQuiet first between → Keeps first.output between.output
     → Reported between ended (record_lines queried.own)
-    → Reported ended new (known_types_text types (lacks_code queried.own.detail))
+    → Reported ended new (known_types_text types (is_no_code queried.own.line.verdict))
     → given ≡ query_status queried → answer ≡ Ok given → answer ≡ Ok status
     → HasQueried program queries types (Some query) format file old new status
 query_ended program queries types file query format old first between ended new queried answer given status is printed quiet kept reported known is_given same_given same_status =

@@ -1,4 +1,4 @@
-pub mod Checked
+pub mod GoodFiles
 pub mod Explanations
 pub mod Overviews
 pub mod Pages

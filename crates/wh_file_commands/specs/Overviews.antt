@@ -81,6 +81,6 @@ abbrev pub overviews : Format → Visits (Option RunStatus)
 overviews format =
     record {
       tells = λ gives input. TellsInput gives input format;
-      stops = IsWriteFailure;
+      stops = λ input. IsWriteFailure;
       ends = λ statuses lacks. HasPrinted (counts_as format statuses) (status_with lacks (overview_status statuses));
     }

@@ -15,7 +15,7 @@ use Rattle.wh_file_faults.specs.Faults.{File}
 use Rattle.wh_report.specs.Records.{IsRecordOf}
 use Rattle.wh_tester.specs.Faults.{replay_fault_text}
 use Rattle.wh_tester.specs.Report.{fault_text, is_good}
-use Rattle.wh_file_commands.specs.Checked.{checked_in, good_record}
+use Rattle.wh_file_commands.specs.GoodFiles.{tasks_in_file, good_record}
 use Rattle.wh_file_commands.specs.declared.queried.Queried.{Queried}
 
 -- whether the query gave payloads
@@ -47,5 +47,5 @@ module _ {S : Type 0} where
   pub record IsQueried (program : Program S) (queries : Queries S) (file : File) (query : Query)
       (queried : Queried) : Type 0 where
     pub own : IsRecordOf NO_OPTIONS program file queried.own
-    pub good : IfSome (checked_in program file.1.items) (λ found. queried.own ≡ good_record (string_bytes file.0) found)
+    pub good : IfSome (tasks_in_file program file.1.items) (λ found. queried.own ≡ good_record (string_bytes file.0) found)
     pub given : queried.given ≡ file_result program queries file.1.items query

@@ -5,7 +5,7 @@ use Rattle.wh_console.specs.declared.format.Format.{Format}
 use Rattle.wh_report.specs.Notes.{record_lines}
 use Rattle.wh_diagnostics.specs.Failures.{IsWriteFailure}
 use Rattle.wh_diagnostics.specs.Files.{IsNotCarriedOut}
-use Rattle.wh_diagnostics.specs.KnownTypes.{known_types_text, lacks_code}
+use Rattle.wh_diagnostics.specs.KnownTypes.{known_types_text}
 use Rattle.wh_diagnostics.specs.Readings.{Gives}
 use Rattle.wh_diagnostics.specs.declared.failures.Failure.{Failure}
 use Rattle.wh_diagnostics.specs.declared.failures.Failure.TheVariants.{BadInput, OutOfMemory}
@@ -13,6 +13,7 @@ use Rattle.wh_file_faults.specs.Faults.{File}
 use Rattle.wh_file_commands.specs.Queried.{IsQueried, status_of as query_status}
 use Rattle.wh_file_commands.specs.QueryTexts.{queried_as}
 use Rattle.wh_file_commands.specs.declared.queried.Queried.{Queried}
+use Rattle.wh_tester.specs.UnknownTypes.{is_no_code}
 use Rattle.wh_workflow.specs.Queries.{Queries}
 use Rattle.wh_workflow.specs.declared.queryable.Query.{Query as Question}
 use Rattle.wh_workflow.specs.Law.{Program}
@@ -29,7 +30,7 @@ pub record HasQueried {S : Type 0} (program : Program S) (queries : Queries S) (
   pub is : IsQueried program queries file query queried
   pub printed : Printed old between (queried_as format queried)
   pub reported : Reported between ended (record_lines queried.own)
-  pub known : Reported ended new (known_types_text types (lacks_code queried.own.detail))
+  pub known : Reported ended new (known_types_text types (is_no_code queried.own.line.verdict))
   pub ends : status ≡ query_status queried
 
 -- why no query is asked: an argument is no JSON, or there was no memory to see that

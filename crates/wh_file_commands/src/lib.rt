@@ -3,8 +3,8 @@
 //! of a history gives.
 #![tactic(auto)]
 
-mod checked;
 mod explain;
+mod good_files;
 mod overview;
 mod page;
 mod queried;

@@ -4,20 +4,20 @@ ghost use Rattle.std.specs.Prelude.{◌≡◌, IfOk, IfSome, string_bytes};
 ghost use Rattle.std.specs.Result.{result_ok};
 ghost use Rattle.wh_workflow.specs.declared.queryable.QueryResult.TheVariants.{Failed};
 ghost use Rattle.wh_query.specs.Queries.{query_at};
-ghost use Rattle.wh_replay.specs.Checks.{checked};
+ghost use Rattle.wh_replay.specs.Outcomes.{replayed_tasks};
 ghost use Rattle.wh_report.specs.Records.{IsRecordOf};
 ghost use Rattle.wh_tester.specs.Faults.{replay_fault_text};
 ghost use Rattle.wh_tester.specs.Report.{fault_text};
-ghost use Rattle.wh_file_commands.specs.Checked.{checked_in, good_record};
+ghost use Rattle.wh_file_commands.specs.GoodFiles.{tasks_in_file, good_record};
 ghost use Rattle.wh_file_commands.specs.Queried.{IsQueried, file_result, replayed_result};
 
-use crate::checked::{good_record, tasks_in};
+use crate::good_files::good_record;
 use std::alloc::Global;
 use wh_console::NO_OPTIONS;
 use wh_events::{Event, OutOfMemory, Text};
 use wh_json::{ReadFault, read_events};
 use wh_query::query_history;
-use wh_replay::{Checked, Fault, RunFault};
+use wh_replay::{Fault, ReplayedTasks, RunFault};
 use wh_report::{Record, record_of};
 use wh_tester::{FaultText, ReplayFaultText};
 use wh_workflow::{Query, QueryResult, Queryable, Workflow};
@@ -50,19 +50,17 @@ fn unreplayed_result(alloc: Global, fault: Fault) -> Result<QueryResult, OutOfMe
 }
 
 /// What a query gives at a history, and what the replay for it finds, unless that has a fault.
-#[tactic(auto, using(crate::proofs::Good::found_where, crate::proofs::Good::none_found))]
 fn query_events<W: Queryable>(
     alloc: Global,
     events: Vec<Event>,
     query: &Query,
-) -> Result<(QueryResult, Option<Checked>), OutOfMemory>
+) -> Result<(QueryResult, Option<ReplayedTasks>), OutOfMemory>
     ensures given { let at = query_at W.program W.queries events.items query.now.query_type query.now.input in
         IfOk result (λ told. told.0 ≡ replayed_result at) }
-    ensures found { IfOk result (λ told. told.1 ≡ result_ok (checked W.program events.items)) }
+    ensures found { IfOk result (λ told. told.1 ≡ result_ok (replayed_tasks W.program events.items)) }
 {
-    let found = tasks_in(alloc, events.as_slice())?;
     match query_history::<W>(alloc, events, query.query_type.get(), query.input.get()) {
-        Ok(given) => Ok((given, Some(found))),
+        Ok((given, found)) => Ok((given, Some(found))),
         Err(RunFault::OutOfMemory) => Err(OutOfMemory),
         Err(RunFault::Fault(fault)) => Ok((unreplayed_result(alloc, fault)?, None)),
     }
@@ -74,9 +72,9 @@ fn query_bytes<W: Queryable>(
     alloc: Global,
     bytes: &[u8],
     query: &Query,
-) -> Result<(QueryResult, Option<Checked>), OutOfMemory>
+) -> Result<(QueryResult, Option<ReplayedTasks>), OutOfMemory>
     ensures given { IfOk result (λ told. told.0 ≡ file_result W.program W.queries bytes.now query.now) }
-    ensures found { IfOk result (λ told. told.1 ≡ checked_in W.program bytes.now) }
+    ensures found { IfOk result (λ told. told.1 ≡ tasks_in_file W.program bytes.now) }
 {
     match read_events(alloc, bytes) {
         Ok(events) => query_events::<W>(alloc, events, query),
@@ -87,8 +85,12 @@ fn query_bytes<W: Queryable>(
 
 /// The record of a file of which a replay found this. It is replayed once more only if nothing was
 /// found, for what stands beside its fault.
-fn record_by<W: Workflow>(alloc: Global, file: (String, Vec<u8>), found: Option<Checked>) -> Record
-    requires { found ≡ checked_in W.program file.1.items }
+fn record_by<W: Workflow>(
+    alloc: Global,
+    file: (String, Vec<u8>),
+    found: Option<ReplayedTasks>,
+) -> Record
+    requires { found ≡ tasks_in_file W.program file.1.items }
     ensures own { IsRecordOf NO_OPTIONS W.program file result }
     ensures good { IfSome found (λ found. result ≡ good_record (string_bytes file.0) found) }
 {

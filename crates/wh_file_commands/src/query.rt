@@ -17,9 +17,10 @@ use std::alloc::Global;
 use std::io;
 use std::io::Write;
 use wh_console::{Console, Format, Outlet};
-use wh_diagnostics::{Failure, InputReader, KnownTypes, file_at, flush_answer, lacks_code};
+use wh_diagnostics::{Failure, InputReader, KnownTypes, file_at, flush_answer};
 use wh_events::Text;
 use wh_file_faults::CommandFault;
+use wh_tester::is_no_code;
 use wh_workflow::{Query, Queryable};
 
 /// Queries a file, and writes what came of that.
@@ -66,7 +67,7 @@ fn query_file<W: Queryable, O: Write, E: Write>(
     };
     let Queried { own, given } = queried;
     drop(given);
-    let lacking = lacks_code(&own.detail);
+    let lacking = is_no_code(&own.line.verdict);
     console.report(own);
     console.report(KnownTypes { types, lacking });
     Ok(status)

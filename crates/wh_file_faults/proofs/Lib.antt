@@ -1,4 +1,3 @@
 pub mod Collected
-pub mod Details
 pub mod Documents
 pub mod Unread

@@ -4,11 +4,11 @@ use Rattle.std.specs.List.{starts_with}
 use Rattle.wh_json.specs.Events.{document_within, history}
 use Rattle.wh_json.specs.Fields.{document}
 use Rattle.wh_json.specs.declared.fault.ReadFault.TheVariants.{BadJson, MissingField}
-use Rattle.wh_replay.specs.declared.fault.Fault.TheVariants.{Place, Workflow}
+use Rattle.wh_replay.specs.declared.fault.Fault.TheVariants.{Place}
 use Rattle.wh_tester.specs.declared.line.Verdict.{Verdict}
 use Rattle.wh_tester.specs.declared.line.Verdict.TheVariants.{Faulty, Unreadable}
 use Rattle.wh_file_faults.specs.declared.detail.FaultDetail.{FaultDetail}
-use Rattle.wh_file_faults.specs.declared.detail.FaultDetail.TheVariants.{NotJson, NoCode}
+use Rattle.wh_file_faults.specs.declared.detail.FaultDetail.TheVariants.{NotJson}
 use Rattle.wh_file_faults.specs.declared.position.EncodingMark.{EncodingMark}
 use Rattle.wh_file_faults.specs.declared.position.EncodingMark.TheVariants.{ByteOrderMark, Utf16}
 use Rattle.wh_file_faults.specs.Fields.{lacks}
@@ -53,17 +53,10 @@ detail_of (Unreadable (MissingField at)) bytes = lacks (document_within bytes) a
 detail_of (Faulty (Place at fault)) bytes = misplaced (history bytes) at fault
 detail_of _ bytes = None
 
--- there is no code for a workflow type, if it is one that is not registered
-abbrev pub no_code : Option (List ℕ) → Option FaultDetail
-no_code None = None
-no_code (Some kind) = Some (NoCode kind)
-
--- the detail of a file with this verdict and this workflow type, if that is not registered: where it is not JSON, that
--- type, or what the fault omits of an event
-abbrev pub IsDetailBy : (unknown : Option (List ℕ)) → Verdict → List ℕ → Option FaultDetail → Type 0
-IsDetailBy unknown (Unreadable BadJson) bytes detail = IsJsonDetail bytes detail
-IsDetailBy unknown (Faulty (Workflow at fault)) bytes detail = detail ≡ no_code unknown
-IsDetailBy unknown verdict bytes detail = detail ≡ detail_of verdict bytes
+-- the detail of a file with this verdict: where it is not JSON, or what the fault omits of an event
+abbrev pub IsDetailBy : Verdict → List ℕ → Option FaultDetail → Type 0
+IsDetailBy (Unreadable BadJson) bytes detail = IsJsonDetail bytes detail
+IsDetailBy verdict bytes detail = detail ≡ detail_of verdict bytes
 
 -- bytes with the verdict are parsed again for its detail
 abbrev pub is_parsed_again : Verdict → Bool

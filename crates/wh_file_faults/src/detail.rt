@@ -1,7 +1,7 @@
 //! The detail of a file's fault.
 
 ghost use Rattle.std.specs.Prelude.{◌≡◌, IfErr, IfOk, true};
-ghost use Rattle.wh_file_faults.specs.Details.{IsDetailBy, IsJsonDetail, IsUnreadDetail, detail_of, has_detail, is_parsed_again, no_code};
+ghost use Rattle.wh_file_faults.specs.Details.{IsDetailBy, IsJsonDetail, IsUnreadDetail, detail_of, has_detail, is_parsed_again};
 ghost use Rattle.wh_json.specs.declared.fault.ReadFault.TheVariants.{BadJson};
 
 use crate::fields::lacks;
@@ -23,11 +23,6 @@ pub enum FaultDetail {
         position: Position,
         /// What the file begins with, if that is not JSON text in UTF-8.
         mark: Option<EncodingMark>,
-    },
-    /// The workflow type of the history is not registered.
-    NoCode {
-        /// The workflow type.
-        kind: Text,
     },
     /// The event lacks a field.
     Lacks {
@@ -106,32 +101,19 @@ pub fn detail_of(
     }
 }
 
-/// Returns that there is no code for a workflow type, if that is one that is not registered.
-fn no_code(unknown: Option<Text>) -> Option<FaultDetail>
-    ensures { result ≡ no_code unknown }
-{
-    match unknown {
-        Some(kind) => Some(FaultDetail::NoCode { kind }),
-        None => None,
-    }
-}
-
-/// Returns the detail of a file's fault from its verdict, its bytes and its workflow type, if that
-/// is not registered: where it is not JSON, that type, or what the fault omits of an event. The
-/// bytes are read again if they are not JSON, or for an event. Returns `OutOfMemory` if there is no
+/// Returns the detail of a file's fault from its verdict and its bytes: where it is not JSON, or what
+/// the fault omits of an event. The bytes are read again then. Returns `OutOfMemory` if there is no
 /// memory for that.
 pub fn file_detail(
     alloc: Global,
-    unknown: Option<Text>,
     verdict: &Verdict,
     bytes: &[u8],
 ) -> Result<Option<FaultDetail>, OutOfMemory>
-    ensures detail { IfOk result (IsDetailBy unknown verdict.now bytes.now) }
+    ensures detail { IfOk result (IsDetailBy verdict.now bytes.now) }
     ensures memory { IfErr result (λ _. is_parsed_again verdict.now ≡ true) }
 {
     match verdict {
         Verdict::Unreadable(ReadFault::BadJson) => unread_detail(alloc, verdict, bytes),
-        Verdict::Faulty(Fault::Workflow { .. }) => Ok(no_code(unknown)),
         _ => detail_of(alloc, verdict, bytes),
     }
 }

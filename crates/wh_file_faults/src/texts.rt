@@ -2,12 +2,13 @@
 
 ghost use Rattle.std.specs.Prelude.{◌≡◌, Some, option_map};
 ghost use Rattle.wh_tester.specs.Json.{following};
-ghost use Rattle.wh_file_faults.specs.DetailTexts.{detail_members, detail_text, mark_text};
+ghost use Rattle.wh_file_faults.specs.DetailTexts.{detail_members, detail_text, mark_text, type_members};
+ghost use Rattle.wh_tester.specs.UnknownTypes.{unregistered_type};
 
 use crate::detail::FaultDetail;
 use crate::position::{EncodingMark, Position};
 use std::fmt;
-use wh_tester::{EscapedName, Shown};
+use wh_tester::{EscapedName, Shown, Verdict, unregistered_type};
 
 /// What a file begins with, in words after its place.
 #[derive(Clone, Copy)]
@@ -35,10 +36,6 @@ impl fmt::Display for FaultDetail {
                 let mark = MarkText(*mark);
                 write!(f, "not JSON at line {line} column {column}{mark}")
             }
-            FaultDetail::NoCode { kind } => {
-                let kind = Shown(kind.get());
-                write!(f, "no code for the workflow type {kind}")
-            }
             FaultDetail::Lacks { at, field } => {
                 let field = Shown(field.get());
                 write!(f, "event {at} lacks {field}")
@@ -59,7 +56,7 @@ impl fmt::Display for FaultDetail {
 }
 
 /// The detail of a fault, if there is one, as further members of a JSON object (RFC 8259): `line`
-/// and `column`, `workflowType`, `field`, `closedBy`, `refersTo` or `workflowId`.
+/// and `column`, `field`, `closedBy`, `refersTo` or `workflowId`.
 #[derive(Drop)]
 pub struct FaultDetailMembers<'a>(pub Option<&'a FaultDetail>);
 
@@ -72,10 +69,6 @@ impl fmt::Display for FaultDetailMembers<'_> {
             Some(FaultDetail::NotJson { position, mark: _ }) => {
                 let Position { line, column } = *position;
                 write!(f, ",\"line\":{line},\"column\":{column}")
-            }
-            Some(FaultDetail::NoCode { kind }) => {
-                let kind = EscapedName(kind.get());
-                write!(f, ",\"workflowType\":\"{kind}\"")
             }
             Some(FaultDetail::Lacks { at: _, field }) => {
                 let field = EscapedName(field.get());
@@ -90,6 +83,25 @@ impl fmt::Display for FaultDetailMembers<'_> {
                 let workflow_id = EscapedName(workflow_id.get());
                 write!(f, ",\"workflowId\":\"{workflow_id}\"")
             }
+        }
+    }
+}
+
+/// The workflow type of a file, if the verdict is that there is no code for it, as a further member
+/// of a JSON object (RFC 8259): `workflowType`.
+#[derive(Drop)]
+pub struct NoCodeMember<'a>(pub &'a Verdict);
+
+impl fmt::Display for NoCodeMember<'_> {
+    ghost output = { λ m. Some (following (type_members (unregistered_type m.0.now))) };
+
+    fn fmt<W: fmt::Write>(&self, f: &mut fmt::Formatter<W>) -> fmt::Result {
+        match unregistered_type(self.0) {
+            Some(kind) => {
+                let kind = EscapedName(kind);
+                write!(f, ",\"workflowType\":\"{kind}\"")
+            }
+            None => Ok(()),
         }
     }
 }

@@ -14,7 +14,6 @@ module _ {S : Type 0} (program : Program S) (name bytes : List ℕ) (explanation
   found_in own known = record {
     verdict = own.verdict;
     known = known;
-    unknown = own.unknown;
     difference = record { tasks = explanation.tasks; explained = own.explained; last = own.difference };
   }
 

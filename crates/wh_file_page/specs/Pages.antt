@@ -2,12 +2,11 @@
 use Rattle.std.specs.Prelude.{◌≡◌, ◌≢◌, ◌||◌, ℕ, Bool, true, false, not, bytes_eq, nat_eq, length, slice_get, if◌then◌else◌, List, codes, Option, Some, None}
 use Rattle.std.specs.Io.KnownBytes.{Appends}
 use Rattle.wh_explain.specs.Differences.{IsDifferenceIn}
-use Rattle.wh_tester.specs.UnknownTypes.{unknown_in}
+use Rattle.wh_tester.specs.UnknownTypes.{unregistered_type}
 use Rattle.wh_explain.specs.declared.explanation.Explanation.{Explanation}
 use Rattle.wh_file_faults.specs.Details.{detail_of}
 use Rattle.wh_file_faults.specs.declared.detail.FaultDetail.{FaultDetail}
 use Rattle.wh_html.specs.Html.{bytes as bytes_of}
-use Rattle.wh_json.specs.Events.{history}
 use Rattle.wh_page.specs.Pages.{page_html}
 use Rattle.wh_run_page.specs.Pages.{IsPageOf as IsRunPageOf}
 use Rattle.wh_run_page.specs.declared.said.Said.{Said}
@@ -45,7 +44,7 @@ said_of name explanation detail =
       good = Some (is_good explanation.verdict);
       place = verdict_place explanation.verdict;
       difference = difference_of explanation.difference;
-      note = note_of explanation.unknown detail;
+      note = note_of (unregistered_type explanation.verdict) detail;
     }
 
 abbrev pub said_in : (name bytes : List ℕ) → Explanation → Said
@@ -68,7 +67,6 @@ module _ {S : Type 0} where
   pub record IsFoundIn (program : Program S) (bytes : List ℕ) (explanation : Explanation) : Type 0 where
     pub verdict : IsVerdict program bytes explanation.verdict
     pub known : explanation.verdict ≢ OutOfMemory
-    pub unknown : explanation.unknown ≡ unknown_in program (history bytes)
     pub difference : IsDifferenceIn program bytes explanation.difference
 
   -- what is said of a file that is replayed, and the status of its report

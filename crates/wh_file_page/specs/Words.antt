@@ -33,8 +33,9 @@ fault_place (faults.Mismatch at mismatch) = Some (mismatch_place at mismatch)
 
 -- that of a verdict
 abbrev pub verdict_place : Verdict → Option ℕ
-verdict_place (verdicts.Good checked) = None
+verdict_place (verdicts.Good replayed_tasks) = None
 verdict_place (verdicts.Unreadable fault) = event_of fault
+verdict_place (verdicts.NoCode kind) = Some 1
 verdict_place (verdicts.Faulty fault) = fault_place fault
 verdict_place verdicts.OutOfMemory = None
 

@@ -42,7 +42,7 @@ fn said_of(
     let title = copy_text(alloc, name)?;
     let verdict = verdict_words(alloc, &explanation.verdict)?;
     let difference = difference_of(alloc, &explanation.difference)?;
-    let note = note_of(alloc, &explanation.unknown, detail)?;
+    let note = note_of(alloc, &explanation.verdict, detail)?;
     Ok(Said {
         title,
         verdict,

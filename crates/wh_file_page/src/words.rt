@@ -2,17 +2,17 @@
 
 ghost use Rattle.std.specs.Prelude.{◌≡◌, IfOk};
 ghost use Rattle.wh_file_page.specs.Words as words;
-ghost use Rattle.wh_tester.specs.Report.{event_of, live_text, verdict_text};
+ghost use Rattle.wh_tester.specs.Report.{verdict_text};
+ghost use Rattle.wh_tester.specs.UnknownTypes.{unregistered_type};
 
 use std::alloc::Global;
 use wh_events::{OutOfMemory, Text};
 use wh_explain::{Pairing, RecordedEvent};
 use wh_file_faults::FaultDetail;
 use wh_html::Difference;
-use wh_json::ReadFault;
 use wh_phrases::{PhraseText, event_phrase};
-use wh_replay::{Checked, Fault};
-use wh_tester::{FaultText, ReplayFaultText, Verdict};
+use wh_replay::Fault;
+use wh_tester::{Verdict, VerdictText, event_of, unregistered_type};
 use wh_workflow::{Command, Mismatch};
 
 /// A text of its own.
@@ -22,56 +22,12 @@ pub(crate) fn copy_text(alloc: Global, text: &str) -> Result<Text, OutOfMemory>
     Ok(Text::new(String::from_str(alloc, text)?))
 }
 
-/// That the last task is live, if it is.
-fn live_text(live: bool) -> &'static str
-    ensures { result.now ≡ live_text live }
-{
-    if live { ", last live" } else { "" }
-}
-
-/// The verdict of a replay without a fault.
-fn good_text(alloc: Global, checked: &Checked) -> Result<Text, OutOfMemory>
-    ensures { IfOk result (λ text. text ≡ verdict_text (Verdict.Good checked.now)) }
-{
-    let tasks = checked.tasks;
-    let live = live_text(checked.live);
-    Ok(Text::new(format!(in alloc; "ok, {tasks} tasks{live}")?))
-}
-
 /// A verdict, as the report of replay has it.
 pub(crate) fn verdict_words(alloc: Global, verdict: &Verdict) -> Result<Text, OutOfMemory>
     ensures { IfOk result (λ text. text ≡ verdict_text verdict.now) }
 {
-    match verdict {
-        Verdict::Good(checked) => good_text(alloc, checked),
-        Verdict::Unreadable(fault) => {
-            let fault = FaultText(fault);
-            Ok(Text::new(format!(in alloc; "unreadable, {fault}")?))
-        }
-        Verdict::Faulty(fault) => {
-            let fault = ReplayFaultText(*fault);
-            Ok(Text::new(format!(in alloc; "fault, {fault}")?))
-        }
-        Verdict::OutOfMemory => copy_text(alloc, "out of memory"),
-    }
-}
-
-/// The place of the event that a fault of the reader is about, if it is about one.
-fn unread_place(fault: &ReadFault) -> Option<u64>
-    ensures { result ≡ event_of fault.now }
-{
-    match fault {
-        ReadFault::TooLong | ReadFault::BadJson | ReadFault::NoEvents | ReadFault::OutOfMemory =>
-            None,
-        ReadFault::BadNumber { at }
-        | ReadFault::OutOfOrder { at }
-        | ReadFault::UnsupportedEvent { at, name: _ }
-        | ReadFault::MissingField { at }
-        | ReadFault::BadTime { at }
-        | ReadFault::BadPayload { at }
-        | ReadFault::ShorthandPayload { at }
-        | ReadFault::UnsupportedMarker { at, name: _ } => Some(*at),
-    }
+    let verdict = VerdictText(verdict);
+    Ok(Text::new(format!(in alloc; "{verdict}")?))
 }
 
 /// The place of the event that a difference in the task of a cut is about: that of the event that
@@ -102,7 +58,8 @@ pub(crate) fn verdict_place(verdict: &Verdict) -> Option<u64>
 {
     match verdict {
         Verdict::Good(_) | Verdict::OutOfMemory => None,
-        Verdict::Unreadable(fault) => unread_place(fault),
+        Verdict::Unreadable(fault) => event_of(fault),
+        Verdict::NoCode { .. } => Some(1),
         Verdict::Faulty(fault) => fault_place(*fault),
     }
 }
@@ -197,14 +154,13 @@ fn detail_note(alloc: Global, detail: &Option<FaultDetail>) -> Result<Option<Tex
 /// fault leaves out.
 pub(crate) fn note_of(
     alloc: Global,
-    unknown: &Option<Text>,
+    verdict: &Verdict,
     detail: &Option<FaultDetail>,
 ) -> Result<Option<Text>, OutOfMemory>
-    ensures { IfOk result (λ note. note ≡ words.note_of unknown.now detail.now) }
+    ensures { IfOk result (λ note. note ≡ words.note_of (unregistered_type verdict.now) detail.now) }
 {
-    match unknown {
+    match unregistered_type(verdict) {
         Some(kind) => {
-            let kind = kind.get();
             let note = format!(in alloc; "There is no code for the workflow type {kind}.")?;
             Ok(Some(Text::new(note)))
         }

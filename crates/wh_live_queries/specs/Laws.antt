@@ -11,7 +11,7 @@ use Rattle.wh_live_queries.specs.Answers.{result_written}
 use Rattle.wh_workflow.specs.Definitions.{Definitions}
 use Rattle.wh_workflow.specs.Queries.{Queries}
 use Rattle.wh_workflow.specs.declared.queryable.Query.{Query}
-use Rattle.wh_replay.specs.Checks.{state_after}
+use Rattle.wh_replay.specs.Outcomes.{state_after}
 use Rattle.wh_replay.specs.Replays.{ends_in_task, workflow_of}
 use Rattle.wh_replay.specs.Runs.{confirms}
 use Rattle.wh_workflow.specs.Law.{Program}

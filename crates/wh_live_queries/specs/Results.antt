@@ -12,7 +12,7 @@ use Rattle.wh_workflow.specs.Queries as in_state
 use Rattle.wh_workflow.specs.declared.queryable.Query.{Query}
 use Rattle.wh_workflow.specs.declared.queryable.QueryResult.{QueryResult}
 use Rattle.wh_workflow.specs.declared.queryable.QueryResult.TheVariants.{Failed}
-use Rattle.wh_replay.specs.Checks.{state_after}
+use Rattle.wh_replay.specs.Outcomes.{state_after}
 use Rattle.wh_replay.specs.Replays.{workflow_of}
 use Rattle.wh_replay.specs.declared.fault.Fault.{Fault}
 use Rattle.wh_tester.specs.Faults.{replay_fault_text}

@@ -2,7 +2,7 @@
 ghost use Rattle.std.specs.Prelude.{◌≡◌, Result, IfOk};
 ghost use Rattle.serde_json.specs.View.{view};
 ghost use Rattle.wh_workflow.specs.declared.queryable.QueryResult.{QueryResult};
-ghost use Rattle.wh_replay.specs.Checks.{Answers};
+ghost use Rattle.wh_replay.specs.Outcomes.{Answers};
 ghost use Rattle.wh_replay.specs.declared.fault.Fault.{Fault};
 ghost use Rattle.wh_live_queries.specs.Metadata.{metadata_asked};
 ghost use Rattle.wh_live_queries.specs.Polled.{query_in, query_seen};

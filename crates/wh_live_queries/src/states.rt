@@ -2,7 +2,7 @@
 
 ghost use Rattle.std.specs.Prelude.{◌≡◌, IfOk};
 ghost use Rattle.wh_live_queries.specs.Results as spec;
-ghost use Rattle.wh_replay.specs.Checks.{state_after};
+ghost use Rattle.wh_replay.specs.Outcomes.{state_after};
 
 use std::alloc::Global;
 use wh_events::{Event, OutOfMemory, Text};

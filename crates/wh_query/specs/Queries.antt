@@ -5,7 +5,7 @@ use Rattle.wh_events.specs.declared.event.Payload.{Payload}
 use Rattle.wh_workflow.specs.Activations.{and_then}
 use Rattle.wh_workflow.specs.Law.{Program}
 use Rattle.wh_replay.specs.declared.fault.Fault.{Fault}
-use Rattle.wh_replay.specs.Checks.{state_after}
+use Rattle.wh_replay.specs.Outcomes.{state_after}
 use Rattle.wh_workflow.specs.declared.queryable.QueryResult.{QueryResult}
 use Rattle.wh_workflow.specs.Queries.{Queries, result_in}
 

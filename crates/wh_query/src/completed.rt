@@ -1,6 +1,6 @@
 //! Queries at a fetched history.
 ghost use Rattle.std.specs.Prelude.{◌≡◌, ◌≤◌, length, take};
-ghost use Rattle.wh_replay.specs.Checks.{Answers};
+ghost use Rattle.wh_replay.specs.Outcomes.{Answers};
 ghost use Rattle.wh_query.specs.Queries.{query_at};
 ghost use Rattle.wh_query.specs.Completed.{completed_part, extends};
 
@@ -53,5 +53,6 @@ pub fn query_fetched<W: Queryable>(
     let mut events = events;
     let completed = completed_len(events.as_slice());
     events.truncate(completed);
-    query_history::<W>(alloc, events, query_type, input)
+    let (given, _) = query_history::<W>(alloc, events, query_type, input)?;
+    Ok(given)
 }

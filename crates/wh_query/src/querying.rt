@@ -1,11 +1,11 @@
 //! Queries at a run and at a history.
 ghost use Rattle.std.specs.Prelude.{◌≡◌, Ok, IfOk, map};
-ghost use Rattle.wh_replay.specs.Checks.{Answers};
+ghost use Rattle.wh_replay.specs.Outcomes.{Answers, replayed_tasks};
 ghost use Rattle.wh_query.specs.Queries.{query_at};
 
 use std::alloc::Global;
 use wh_events::{Event, OutOfMemory, Payload};
-use wh_replay::{ReplayedHistory, Run, RunFault, state_after};
+use wh_replay::{ReplayedHistory, ReplayedTasks, Run, RunFault, replay_to_end};
 use wh_workflow::{Query, QueryResult, Queryable, query_state};
 
 /// Returns the result of a query at a run, which stays as it is. Returns `OutOfMemory` if there was
@@ -56,19 +56,21 @@ pub fn query_replayed<W: Queryable>(
     query_state::<W>(alloc, history.state(), query_type, input)
 }
 
-/// Returns the result of a query at a history, by replay from its first event, or the fault of that
-/// replay. The history may end anywhere: the workflow does not get what comes after its last task.
-/// Returns `OutOfMemory` if there was no memory.
+/// Returns the result of a query at a history, by one replay from its first event, and what that
+/// replay finds, or its fault. The history may end anywhere: the workflow does not get what comes
+/// after its last task. Returns `OutOfMemory` if there was no memory.
 pub fn query_history<W: Queryable>(
     alloc: Global,
     events: Vec<Event>,
     query_type: &str,
     input: &[Payload],
-) -> Result<QueryResult, RunFault>
-    ensures { Answers result (query_at W.program W.queries events.items query_type.now input.now) (λ given. given) }
+) -> Result<(QueryResult, ReplayedTasks), RunFault>
+    ensures given { Answers result
+        (query_at W.program W.queries events.items query_type.now input.now) (λ told. told.0) }
+    ensures replayed_tasks { Answers result (replayed_tasks W.program events.items) (λ told. told.1) }
 {
-    let state = state_after::<W>(alloc, events)?;
+    let (state, found) = replay_to_end::<W>(alloc, events)?;
     let given = query_state::<W>(alloc, &state, query_type, input);
     drop(state);
-    Ok(given?)
+    Ok((given?, found))
 }

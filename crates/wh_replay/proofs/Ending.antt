@@ -22,7 +22,7 @@ use Rattle.wh_replay.specs.Private.Views.{view_of}
 use Rattle.wh_replay.proofs.Raising.{top}
 use Rattle.wh_replay.specs.declared.fault.RunFault.{RunFault}
 use Rattle.wh_replay.specs.declared.fault.RunFault.TheVariants.{Fault as Faulty, OutOfMemory}
-use Rattle.wh_replay.specs.Checks.{Answers}
+use Rattle.wh_replay.specs.Outcomes.{Answers}
 use Rattle.wh_replay.specs.Tracking.{joined}
 use Rattle.wh_replay.specs.Private.Advances.{GivesHistory}
 use Rattle.wh_replay.proofs.Resuming.{taken_parts, run_replay, replay_parts, replayed_gives, replayed_fault, misplaced, advanced_gives, advanced_counts, advanced_fault}

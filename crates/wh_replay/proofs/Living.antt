@@ -10,7 +10,7 @@ use Rattle.wh_events.specs.Tasks.{IsLiveCut}
 use Rattle.wh_events.proofs.Placing.{at_index, index_of}
 use Rattle.wh_events.proofs.Cutting.{live_cut}
 use Rattle.wh_split.specs.Splits.{is_live_before, is_live}
-use Rattle.wh_replay.specs.Checks.{ends_live}
+use Rattle.wh_replay.specs.Outcomes.{ends_live}
 use Rattle.wh_replay.specs.Wholes.{LivePlaceIsSaid, LiveEndIsSaid}
 use Rattle.wh_replay.proofs.Joining.{if_true, if_false, test_of}
 

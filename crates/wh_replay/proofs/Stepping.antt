@@ -21,7 +21,7 @@ use Rattle.wh_replay.specs.declared.cut.Cut.{Cut}
 use Rattle.wh_replay.specs.Views.{context_of, context_after}
 use Rattle.wh_replay.specs.Private.Views.{task_of}
 use Rattle.wh_replay.specs.Activating.{IsCutAfter}
-use Rattle.wh_replay.specs.Checks.{ends_live}
+use Rattle.wh_replay.specs.Outcomes.{ends_live}
 
 -- none of the first events is a cut, where the history goes on with the rest
 abbrev pub Passed : List Event → List Event → Type 0

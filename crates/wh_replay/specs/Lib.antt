@@ -1,6 +1,6 @@
 pub mod Replays
 pub mod Runs
-pub mod Checks
+pub mod Outcomes
 pub mod Views
 pub mod Activating
 pub mod Tracking

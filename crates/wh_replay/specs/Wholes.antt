@@ -20,7 +20,7 @@ use Rattle.wh_workflow.specs.Activations.{Progress, activate}
 use Rattle.wh_replay.specs.declared.fault.Fault.{Fault}
 use Rattle.wh_replay.specs.declared.fault.Fault.TheVariants.{Place as PlaceFaulty, Workflow as WorkflowFaulty, Mismatch as Mismatched}
 use Rattle.wh_replay.specs.Replays.{ReplayResult, Replayed, context_at, begin_at, reached, start, workflow_of, with_machines, replay}
-use Rattle.wh_replay.specs.Checks.{ends_live}
+use Rattle.wh_replay.specs.Outcomes.{ends_live}
 
 -- none of the events is a cut of a history that continues after them with the rest
 abbrev pub HasNoCut : List Event → List Event → Type 0

@@ -6,10 +6,10 @@ ghost use Rattle.wh_replay.specs.Replays.{ends_in_task};
 ghost use Rattle.wh_replay.specs.Runs.{IsReplayed, run_of, steps, advance_steps, status_in};
 ghost use Rattle.wh_replay.specs.Private.Advances.{GivesHistory};
 
-use crate::checking::replay;
 use crate::continuing::{ends_in_task, replay_joined};
 use crate::fault::{Fault, RunFault};
 use crate::pushing::push_all;
+use crate::replaying::replay;
 use crate::state::ReplayState;
 use std::alloc::Global;
 use std::marker::Model;

@@ -1,7 +1,7 @@
 //! Appends the events of a history, each in its place.
 ghost use Rattle.std.specs.Prelude.{◌≡◌};
 ghost use Rattle.wh_events.specs.Places.{history_fault};
-ghost use Rattle.wh_replay.specs.Checks.{Answers};
+ghost use Rattle.wh_replay.specs.Outcomes.{Answers};
 ghost use Rattle.wh_replay.specs.Tracking.{in_place, joined, Takes};
 
 use crate::fault::{Fault, RunFault};

@@ -1,7 +1,7 @@
 //! What the tasks of a history leave.
 ghost use Rattle.std.specs.Prelude.{◌≡◌, ℕ, true, [], IfOk};
 ghost use Rattle.wh_replay.specs.Replays.{start};
-ghost use Rattle.wh_replay.specs.Checks.{replay_result};
+ghost use Rattle.wh_replay.specs.Outcomes.{replay_result};
 ghost use Rattle.wh_replay.specs.Views.{replay_result_of};
 
 use std::alloc::Global;

@@ -11,13 +11,14 @@ use Rattle.wh_console.specs.declared.files.Input.{Input}
 use Rattle.wh_replay_command.specs.Batches.{faulty_of}
 use Rattle.wh_diagnostics.specs.Listings.{AfterListing, AreListed, AreUnlisted, is_by_path, lacks_files}
 use Rattle.wh_diagnostics.specs.Readings.{Gives, IsReadAs}
-use Rattle.wh_diagnostics.specs.KnownTypes.{known_types_text, lacks_code}
+use Rattle.wh_diagnostics.specs.KnownTypes.{known_types_text}
 use Rattle.wh_diagnostics.specs.Batches.{LacksReport, reports_of}
 use Rattle.wh_diagnostics.specs.ProgressModes.{mode_by}
 use Rattle.wh_diagnostics.specs.declared.progress_modes.ProgressMode.{ProgressMode}
 use Rattle.wh_report.specs.Records.{AreRecordsOf}
 use Rattle.wh_report.specs.Reports.{records_status, report_of}
 use Rattle.wh_report.specs.declared.records.Record.{Record}
+use Rattle.wh_tester.specs.UnknownTypes.{is_no_code}
 use Rattle.wh_workflow.specs.Law.{Program}
 
 -- the report of records was written, then the rest of them was reported, and the status is that of the report, unless
@@ -40,7 +41,7 @@ pub record HasReplayed {S : Type 0} (gives : Gives) (options : ReplayOptions) (p
   pub found : AreRecordsOf options program (IsReadAs gives) inputs records
   pub told : Reported old between (reports_of mode (faulty_of records))
   pub reported : HasReported records options lacks between ended status
-  pub known : Reported ended new (known_types_text types (list_any (λ own. lacks_code own.detail) records))
+  pub known : Reported ended new (known_types_text types (list_any (λ own. is_no_code own.line.verdict) records))
 
 -- what paths name was replayed, and progress was reported as some link of the standard error and the option for it have
 -- it

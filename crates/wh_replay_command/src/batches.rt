@@ -15,7 +15,7 @@ use wh_diagnostics::{
     InputReader, Progress, ProgressEnd, ProgressLine, ProgressMode, batch_size, file_from,
     reported_batches,
 };
-use wh_report::{Record, check_all};
+use wh_report::{Record, replay_inputs};
 use wh_tester::is_good;
 use wh_workflow::Workflow;
 
@@ -41,7 +41,7 @@ fn progress_of(records: &[Record], total: usize) -> Progress
 }
 
 /// Replays inputs, and adds their records to those before them.
-fn check_batch<W: Workflow + Send, R: InputReader + AllocGlobal + Threads + Sync>(
+fn replay_batch<W: Workflow + Send, R: InputReader + AllocGlobal + Threads + Sync>(
     rt: &R,
     inputs: Vec<Input>,
     options: ReplayOptions,
@@ -50,7 +50,7 @@ fn check_batch<W: Workflow + Send, R: InputReader + AllocGlobal + Threads + Sync
     ensures { OnOk result
         (AddsRecords options W.program (IsReadAs R.gives) inputs.items records.old.items records.new.items) }
 {
-    let mut own = check_all::<W, R, _, _>(
+    let mut own = replay_inputs::<W, R, _, _>(
         rt,
         rt.alloc(),
         inputs,
@@ -67,7 +67,7 @@ fn check_batch<W: Workflow + Send, R: InputReader + AllocGlobal + Threads + Sync
 
 /// Replays inputs batch by batch, and returns their records in their order. Progress is reported
 /// after each batch but the last; if an input can't be read, after some of those before it at most.
-fn check_batches<
+fn replay_batches<
     W: Workflow + Send,
     R: InputReader + AllocGlobal + Threads + Sync,
     O: Write,
@@ -94,18 +94,18 @@ fn check_batches<
         let Ok(later) = left.split_off(size) else {
             return Err(InputFault::OutOfMemory);
         };
-        check_batch::<W, R>(rt, left, options, &mut records)?;
+        replay_batch::<W, R>(rt, left, options, &mut records)?;
         left = later;
         let progress = progress_of(records.as_slice(), total);
         console.report(ProgressLine { mode, progress });
     }
-    check_batch::<W, R>(rt, left, options, &mut records)?;
+    replay_batch::<W, R>(rt, left, options, &mut records)?;
     Ok(records)
 }
 
 /// Replays inputs, and returns their records in their order. Progress is reported between batches,
 /// and then what erases a line of it that is written over itself, also if an input can't be read.
-pub(crate) fn check_in_batches<
+pub(crate) fn replay_in_batches<
     W: Workflow + Send,
     R: InputReader + AllocGlobal + Threads + Sync,
     O: Write,
@@ -125,7 +125,7 @@ pub(crate) fn check_in_batches<
         mode inputs.items console.old console.new) }
 {
     let lines = reported_batches(mode, inputs.len());
-    let records = check_batches::<W, R, O, E>(rt, inputs, options, mode, console);
+    let records = replay_batches::<W, R, O, E>(rt, inputs, options, mode, console);
     console.report(ProgressEnd { mode, lines });
     records
 }

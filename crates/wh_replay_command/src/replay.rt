@@ -6,24 +6,25 @@ ghost use Rattle.wh_console.specs.Consoles.{IsQuiet, Printed, Reported};
 ghost use Rattle.wh_replay_command.specs.Batches.{faulty_of};
 ghost use Rattle.wh_replay_command.specs.Replays.{HasNotReplayedPaths, HasReplayed, HasReplayedPaths, HasReported};
 ghost use Rattle.wh_diagnostics.specs.Batches.{LacksReport};
-ghost use Rattle.wh_diagnostics.specs.KnownTypes.{lacks_code};
+ghost use Rattle.wh_tester.specs.UnknownTypes.{is_no_code};
 ghost use Rattle.wh_diagnostics.specs.Readings.{IsReadAs};
 ghost use Rattle.wh_report.specs.Notes.{records_lines};
 ghost use Rattle.wh_report.specs.Records.{AreRecordsOf};
 ghost use Rattle.wh_report.specs.Reports.{records_status, report_of};
 
-use crate::batches::check_in_batches;
+use crate::batches::replay_in_batches;
 use std::io::Write;
 use std::rt::Runtime;
 use std::thread::Threads;
 use wh_console::{Console, Input, ReplayOptions};
 use wh_diagnostics::{
-    Failure, InputReader, KnownTypes, ProgressMode, all_inputs, flush_answer, lacks_code,
-    progress_mode, status_with,
+    Failure, InputReader, KnownTypes, ProgressMode, all_inputs, flush_answer, progress_mode,
+    status_with,
 };
 use wh_events::Text;
 use wh_file_faults::CommandFault;
 use wh_report::{Record, report};
+use wh_tester::is_no_code;
 use wh_workflow::Workflow;
 
 /// Writes the report of records that options ask for, and returns its status.
@@ -67,11 +68,11 @@ fn end_report<O: Write, E: Write>(
     Ok(status_with(lacks, status))
 }
 
-/// Whether the workflow type of a file is not registered.
+/// Whether there is no code for the workflow type of a file.
 fn lack_code(records: &[Record]) -> bool
-    ensures { result ≡ list_any (λ own. lacks_code own.detail) records.now }
+    ensures { result ≡ list_any (λ own. is_no_code own.line.verdict) records.now }
 {
-    records.iter().any(|own| lacks_code(&own.detail))
+    records.iter().any(|own| is_no_code(&own.line.verdict))
 }
 
 /// Replays inputs, reports progress between batches of them, writes the report of their records,
@@ -91,7 +92,7 @@ fn replay<W: Workflow + Send, R: InputReader + AllocGlobal + Threads + Sync, O: 
     ensures stopped { IfErr result (LacksReport (AreRecordsOf options W.program (IsReadAs R.gives)) faulty_of
         mode inputs.items console.old console.new) }
 {
-    let records = check_in_batches::<W, R, O, E>(rt, inputs, options, mode, console)?;
+    let records = replay_in_batches::<W, R, O, E>(rt, inputs, options, mode, console)?;
     let lacking = lack_code(records.as_slice());
     let status = match end_report(records, options, lacks, console) {
         Ok(status) => status,

@@ -9,7 +9,8 @@ use Rattle.wh_tester.specs.Json.{following, open_line}
 use Rattle.wh_tester.specs.Report.{good_count, line_text, report, totals_line}
 use Rattle.wh_tester.specs.declared.line.Line.{Line}
 use Rattle.wh_report.specs.declared.records.Record.{Record}
-use Rattle.wh_file_faults.specs.DetailTexts.{detail_members}
+use Rattle.wh_file_faults.specs.DetailTexts.{detail_members, type_members}
+use Rattle.wh_tester.specs.UnknownTypes.{unregistered_type}
 use Rattle.wh_phrases.proofs.Lines.{open_and_closed as closed}
 use Rattle.wh_phrases.specs.Json.{difference_members}
 use Rattle.wh_phrases.specs.Texts.{value_object}
@@ -38,14 +39,18 @@ warnings_written first others =
     ∙ sym (append-nil (codes "," ++ own))
 
 -- the members of a record are written one part after another
-pub members_written : (own : Record) → (following (detail_members own.detail) ++ following (difference_members own.difference)) ++ following (warning_members own.warnings) ≡ following (members_after own)
+pub members_written : (own : Record) → (following (type_members (unregistered_type own.line.verdict)) ++ (following (detail_members own.detail) ++ following (difference_members own.difference))) ++ following (warning_members own.warnings) ≡ following (members_after own)
 members_written own =
+    let kind = type_members (unregistered_type own.line.verdict) in
     let first = detail_members own.detail in
     let second = difference_members own.difference in
     let third = warning_members own.warnings in
-    append_assoc (following first) (following second) (following third)
+    append_assoc (following kind) (following first ++ following second) (following third)
+    ∙ ap (λ l. following kind ++ l)
+    (append_assoc (following first) (following second) (following third)
     ∙ ap (λ l. following first ++ l) (both_follow second third)
-    ∙ both_follow first (second ++ third)
+    ∙ both_follow first (second ++ third))
+    ∙ both_follow kind (first ++ (second ++ third))
 
 -- the object of a record is closed after them
 pub object_written : (own : Record) → (open_line own.line ++ following (members_after own)) ++ codes "}\n" ≡ json_record own

@@ -1,15 +1,15 @@
 -- Files that are parsed again for the detail of their fault are not too long.
-use Rattle.std.proofs.Common.{◌≡◌, ◌∙◌, ◌≤◌, ℕ, Bool, true, false, List, [], None, ap, arith, length, refl, subst, sym}
-use Rattle.std.specs.Prelude.{◌≢◌, Result, Ok, Err, nat_lt, string_bytes}
+use Rattle.std.proofs.Common.{◌≡◌, ◌∙◌, ◌≤◌, ℕ, Bool, true, false, List, [], None, Some, ap, arith, length, refl, subst, sym}
+use Rattle.std.specs.Prelude.{◌≢◌, Option, Result, Ok, Err, nat_lt, string_bytes}
 use Rattle.wh_events.specs.declared.event.Event.{Event}
-use Rattle.wh_tester.specs.UnknownTypes.{unknown_in}
+use Rattle.wh_tester.specs.UnknownTypes.{unknown_of}
 use Rattle.wh_file_faults.specs.Details.{IsDetailBy, is_parsed_again}
 use Rattle.wh_file_faults.specs.Faults.{File}
 use Rattle.wh_json.specs.Events.{history, longest}
 use Rattle.wh_json.specs.declared.fault.ReadFault.{ReadFault}
 use Rattle.wh_json.specs.declared.fault.ReadFault.TheVariants.{BadJson, MissingField, TooLong}
-use Rattle.wh_replay.specs.Checks.{checked}
-use Rattle.wh_replay.specs.declared.fault.Checked.{Checked}
+use Rattle.wh_replay.specs.Outcomes.{replayed_tasks}
+use Rattle.wh_replay.specs.declared.fault.ReplayedTasks.{ReplayedTasks}
 use Rattle.wh_replay.specs.declared.fault.Fault.{Fault}
 use Rattle.wh_tester.proofs.Reading.{read_within}
 use Rattle.wh_tester.specs.Verdicts.{IsVerdict, judged, read_and_judged, verdict_on}
@@ -21,13 +21,14 @@ use Rattle.wh_report.specs.declared.records.Record.{Record}
 use Rattle.wh_report.specs.Records.{IsRecordOf}
 
 -- no replay is unreadable
-never_unread : (judgement : Result Checked Fault) (fault : ReadFault) → Unreadable fault ≡ judged judgement → ⊥
-never_unread (Ok checked) fault h = cc
-never_unread (Err other) fault h = cc
+never_unread : (unknown : Option (List ℕ)) (judgement : Result ReplayedTasks Fault) (fault : ReadFault) → Unreadable fault ≡ judged unknown judgement → ⊥
+never_unread (Some kind) judgement fault h = cc
+never_unread None (Ok replayed_tasks) fault h = cc
+never_unread None (Err other) fault h = cc
 
 -- bytes that are unreadable were read as that
 unread : {S : Type 0} (program : Program S) (read : Result (List Event) ReadFault) (fault : ReadFault) → Unreadable fault ≡ read_and_judged program read → read ≡ Err fault
-unread program (Ok events) fault h = absurd (never_unread (checked program events) fault h)
+unread program (Ok events) fault h = absurd (never_unread (unknown_of program events) (replayed_tasks program events) fault h)
 unread program (Err other) fault h = (let same : fault ≡ other = cc in ap Err (sym same))
 
 -- a fault that leaves something out is that of bytes that are not too long
@@ -63,7 +64,7 @@ no_memory_is options program file own line undetailed unwarned within =
           read = λ other. (let clash = sym ends ∙ other in cc);
         };
       };
-      detail = subst (λ verdict. IsDetailBy (unknown_in program (history file.1.items)) verdict file.1.items own.detail) (sym ends) undetailed;
+      detail = subst (λ verdict. IsDetailBy verdict file.1.items own.detail) (sym ends) undetailed;
       difference = λ known. absurd (known ends);
       warnings = λ known. absurd (known ends);
       unwarned = λ _. unwarned;

@@ -1,6 +1,6 @@
 -- What a document says of the history in its bytes.
 use Rattle.std.proofs.Common.{◌≡◌, ◌∙◌, ◌≤◌, ℕ, Bool, true, false, cond, List, [], length, Option, Some, None, Result, Ok, Err, refl, sym, ap, subst, arith}
-use Rattle.std.specs.Prelude.{◌≢◌, IfErr, IfSome, Vec, nat_lt}
+use Rattle.std.specs.Prelude.{◌≢◌, IfErr, Vec, nat_lt}
 use Rattle.std.specs.declared.alloc.Global.{Global}
 use Rattle.serde_json.specs.Data.{Data}
 use Rattle.wh_events.specs.declared.event.Event.{Event}
@@ -14,11 +14,10 @@ use Rattle.wh_tester.proofs.Reading.{read_within}
 use Rattle.wh_tester.specs.Report.{is_good}
 use Rattle.wh_tester.specs.Verdicts.{IsVerdict, read_and_judged, verdict_on}
 use Rattle.wh_tester.specs.declared.line.Verdict.{Verdict}
-use Rattle.wh_tester.specs.UnknownTypes.{unknown_in}
 use Rattle.wh_explain.specs.Reading.{IsExplanationIn, IsReadOf}
 use Rattle.wh_explained_tasks.specs.declared.ExplainedTask.{ExplainedTask}
 use Rattle.wh_explain.specs.declared.explanation.Explanation.{Explanation}
-use Rattle.wh_report.specs.Checked.{members_of, members_or_none, values_if}
+use Rattle.wh_report.specs.OtherValues.{members_of, members_or_none, values_if}
 use Rattle.wh_report.specs.Private.Found.{IsFound}
 use Rattle.wh_phrases.specs.declared.comparing.OtherValue.{OtherValue}
 
@@ -105,16 +104,7 @@ pub found_values : {S : Type 0} (program : Program S) (bytes : List ℕ) (member
     → members_of (document_within bytes) ≡ members → values ≡ values_if (is_good explanation.verdict) members explanation.tasks → IsFound program bytes explanation values
 found_values program bytes members explanation values own are same = record {
   verdict = own.verdict;
-  unknown = own.unknown;
   difference = record { tasks = explanation.tasks; explained = own.explained; last = own.difference };
   tasks = own.explained;
   values = record { tasks = explanation.tasks; explained = own.explained; are = same ∙ ap (λ l. values_if (is_good explanation.verdict) l explanation.tasks) (sym are) };
 }
-
-named_by : (found kind : Option (List ℕ)) → found ≡ kind → IfSome found (λ own. kind ≡ Some own)
-named_by None kind is = tt
-named_by (Some own) kind is = sym is
-
--- a workflow type that is found is the one without code
-pub found_named : {S : Type 0} (program : Program S) (bytes : List ℕ) (explanation : Explanation) (values : List OtherValue) → IsFound program bytes explanation values → IfSome explanation.unknown (λ kind. unknown_in program (history bytes) ≡ Some kind)
-found_named program bytes explanation values own = named_by explanation.unknown (unknown_in program (history bytes)) own.unknown

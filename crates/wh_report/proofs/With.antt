@@ -7,7 +7,7 @@ use Rattle.wh_workflow.specs.Law.{Program}
 use Rattle.wh_tester.specs.Report.{is_good}
 use Rattle.wh_explain.specs.Reading.{IsExplanationIn}
 use Rattle.wh_explain.specs.declared.explanation.Explanation.{Explanation}
-use Rattle.wh_report.specs.Checked.{members_of, values_if}
+use Rattle.wh_report.specs.OtherValues.{members_of, values_if}
 use Rattle.wh_report.specs.Private.Found.{IsFound}
 use Rattle.wh_phrases.specs.declared.comparing.OtherValue.{OtherValue}
 use Rattle.wh_report.proofs.Read.{found_values, good_within}

@@ -1,4 +1,4 @@
-pub mod Checked
+pub mod OtherValues
 pub mod Notes
 pub mod Private
 pub mod Records

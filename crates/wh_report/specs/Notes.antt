@@ -2,7 +2,7 @@
 use Rattle.std.specs.Prelude.{ℕ, List, [], ◌++◌, codes, Option, Some, None}
 use Rattle.std.specs.List.{flat_map}
 use Rattle.wh_explained_tasks.specs.declared.Pairing.{Pairing}
-use Rattle.wh_file_faults.specs.DetailTexts.{detail_lines}
+use Rattle.wh_file_faults.specs.DetailTexts.{omitted_lines}
 use Rattle.wh_phrases.specs.Sides.{sides_text}
 use Rattle.wh_phrases.specs.Texts.{value_text}
 use Rattle.wh_phrases.specs.declared.comparing.OtherValue.{OtherValue}
@@ -28,11 +28,11 @@ warning_line file value name =
 abbrev pub warning_lines : (file : List ℕ) → List OtherValue → (name : List ℕ) → List ℕ
 warning_lines file values name = flat_map (λ value. warning_line file value name) values
 
--- the lines of a file: its difference, the detail of its fault, and its warnings
+-- the lines of a file: its difference, what its line omits, and its warnings
 abbrev pub record_lines : Record → List ℕ → List ℕ
 record_lines own name =
     difference_lines own.line.name own.difference name
-    ++ (detail_lines own.line.name own.detail name ++ warning_lines own.line.name own.warnings name)
+    ++ (omitted_lines own.line own.detail name ++ warning_lines own.line.name own.warnings name)
 
 -- the lines of files, in their order
 abbrev pub records_lines : List Record → List ℕ → List ℕ

@@ -7,11 +7,9 @@ use Rattle.wh_tester.specs.declared.line.Verdict.{Verdict}
 use Rattle.wh_tester.specs.declared.line.Verdict.TheVariants.{OutOfMemory}
 use Rattle.wh_tester.specs.Verdicts.{IsLineOf}
 use Rattle.wh_explain.specs.Differences.{IsDifferenceIn}
-use Rattle.wh_tester.specs.UnknownTypes.{unknown_in}
 use Rattle.wh_file_faults.specs.Details.{IsDetailBy}
 use Rattle.wh_file_faults.specs.Faults.{File}
-use Rattle.wh_json.specs.Events.{history}
-use Rattle.wh_report.specs.Checked.{AreOtherValues}
+use Rattle.wh_report.specs.OtherValues.{AreOtherValues}
 use Rattle.wh_phrases.specs.declared.comparing.OtherValue.{OtherValue}
 use Rattle.wh_report.specs.declared.records.Record.{Record}
 
@@ -26,7 +24,7 @@ AreWarnings false program bytes verdict warnings = warnings ≡ []
 pub record IsRecordOf {S : Type 0} (options : ReplayOptions) (program : Program S) (file : File)
     (own : Record) : Type 0 where
   pub line : IsLineOf program file own.line
-  pub detail : IsDetailBy (unknown_in program (history file.1.items)) own.line.verdict file.1.items own.detail
+  pub detail : IsDetailBy own.line.verdict file.1.items own.detail
   pub difference : own.line.verdict ≢ OutOfMemory → IsDifferenceIn program file.1.items own.difference
   pub warnings : own.line.verdict ≢ OutOfMemory
       → AreWarnings options.strict_values program file.1.items own.line.verdict own.warnings

@@ -2,10 +2,11 @@
 use Rattle.std.specs.Prelude.{ℕ, List, [], ◌∷◌, ◌++◌, map, codes, Bool, true, false, if◌then◌else◌}
 use Rattle.std.specs.List.{flat_map, list_any}
 use Rattle.wh_tester.specs.Json.{json_totals}
+use Rattle.wh_tester.specs.UnknownTypes.{unregistered_type}
 use Rattle.wh_tester.specs.Report.{all_good, report}
 use Rattle.wh_tester.specs.declared.line.Line.{Line}
 use Rattle.wh_phrases.specs.Json.{difference_members, json_line_with}
-use Rattle.wh_file_faults.specs.DetailTexts.{detail_members}
+use Rattle.wh_file_faults.specs.DetailTexts.{detail_members, type_members}
 use Rattle.wh_console.specs.declared.format.Format.{Format}
 use Rattle.wh_console.specs.declared.format.Format.TheVariants.{Text, Json}
 use Rattle.wh_console.specs.declared.replay_options.ReplayOptions.{ReplayOptions}
@@ -26,7 +27,8 @@ warning_members (first ∷ others) =
 -- what the object of a file has after the text of its fault
 abbrev pub members_after : Record → List (List ℕ)
 members_after own =
-    detail_members own.detail ++ (difference_members own.difference ++ warning_members own.warnings)
+    type_members (unregistered_type own.line.verdict)
+    ++ (detail_members own.detail ++ (difference_members own.difference ++ warning_members own.warnings))
 
 -- the line of a file as JSON
 abbrev pub json_record : Record → List ℕ

@@ -7,7 +7,7 @@ ghost use Rattle.wh_report.specs.Records.{IsRecordOf};
 ghost use Rattle.wh_report.specs.Reports.{records_status, report_of};
 ghost use Rattle.wh_report.specs.declared.records.Record.{Record as RecordView};
 
-use crate::records::check_all;
+use crate::records::replay_inputs;
 use crate::reports::report;
 use std::alloc::Global;
 use std::io::Write;
@@ -34,7 +34,7 @@ pub fn replay_command<W: Workflow + Send, R: Threads + Sync, O: Write>(
         × (status ≡ records_status records)) }
     ensures unwritten { result ≡ Err CommandFault.OutOfMemory → writer.new ≡ writer.old }
 {
-    let Ok(records) = check_all::<W, _, _, _>(
+    let Ok(records) = replay_inputs::<W, _, _, _>(
         rt,
         alloc,
         files,

@@ -1,16 +1,15 @@
 //! What is reported of files beside their report: the command sent and the event recorded where
-//! they differ, the details of their faults, and their warnings.
+//! they differ, what their lines omit, and their warnings.
 
 ghost use Rattle.std.specs.Prelude.{OnOk};
 ghost use Rattle.std.specs.Io.KnownBytes.{Appends};
-ghost use Rattle.wh_file_faults.specs.DetailTexts.{detail_lines};
 ghost use Rattle.wh_report.specs.Notes.{difference_lines, record_lines, warning_line, warning_lines};
 
 use crate::records::Record;
 use std::io;
 use std::io::Write;
 use wh_console::Message;
-use wh_file_faults::write_detail;
+use wh_file_faults::write_omitted;
 use wh_phrases::{OtherValue, OtherValueText, SidesText};
 use wh_tester::Shown;
 
@@ -26,17 +25,6 @@ fn write_difference<E: Write>(own: &Record, name: &str, writer: &mut E) -> io::R
     let sides = SidesText(pairing);
     let name = Shown(name);
     writeln!(writer, "{name}: {file}: {sides}")
-}
-
-/// Writes the detail of a file's fault, if there is one.
-fn write_detail_of<E: Write>(own: &Record, name: &str, writer: &mut E) -> io::Result<()>
-    ensures { OnOk result (Appends (E.contents writer.old) (E.contents writer.new)
-        (detail_lines own.now.line.name own.now.detail name.now)) }
-{
-    match &own.detail {
-        Some(detail) => write_detail(own.line.name.get(), detail, name, writer),
-        None => Ok(()),
-    }
 }
 
 /// Writes a warning: a value of a file that differs from what is recorded.
@@ -71,13 +59,13 @@ fn write_warnings<E: Write>(
     Ok(())
 }
 
-/// Writes the lines of a file beside the report: its difference, the detail of its fault, and its
+/// Writes the lines of a file beside the report: its difference, what its line omits, and its
 /// warnings.
 fn write_record<E: Write>(own: &Record, name: &str, writer: &mut E) -> io::Result<()>
     ensures { OnOk result (Appends (E.contents writer.old) (E.contents writer.new) (record_lines own.now name.now)) }
 {
     write_difference(own, name, writer)?;
-    write_detail_of(own, name, writer)?;
+    write_omitted(&own.line, &own.detail, name, writer)?;
     write_warnings(own.line.name.get(), own.warnings.get(), name, writer)
 }
 

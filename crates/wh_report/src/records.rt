@@ -2,19 +2,17 @@
 
 ghost use Rattle.std.specs.Prelude.{◌≡◌, ◌≢◌, Err, IfErr, IfOk, MatchResult, None, Ok, []};
 ghost use Rattle.wh_file_faults.specs.Made.{IsFaultIn};
-ghost use Rattle.wh_json.specs.Events.{history};
 ghost use Rattle.wh_explain.specs.Differences.{IsDifferenceIn};
-ghost use Rattle.wh_tester.specs.UnknownTypes.{unknown_in};
 ghost use Rattle.wh_report.specs.Records.{AreRecordsOf, AreWarnings, IsRecordOf, IsRecordOfInput};
 ghost use Rattle.wh_tester.specs.Verdicts.{IsVerdict};
 
-use crate::checking::check_values;
+use crate::other_values::replay_with_values;
 use rayon::prelude::*;
 use std::alloc::Global;
 use std::thread::Threads;
 use wh_console::{InputFault, ReplayOptions};
 use wh_events::{Items, OutOfMemory, Text};
-use wh_explain::{Explanation, Pairing, check_file};
+use wh_explain::{Explanation, Pairing, replay_file};
 use wh_file_faults::{FaultDetail, file_detail};
 use wh_phrases::OtherValue;
 use wh_tester::{Line, Verdict};
@@ -25,8 +23,8 @@ use wh_workflow::Workflow;
 pub struct Record {
     /// Its name, and the verdict on its bytes.
     pub line: Line,
-    /// What its fault omits: where it is not JSON, its workflow type, if that is not registered, the
-    /// field that an event lacks, or what one that is not in place contradicts.
+    /// What its fault omits: where it is not JSON, the field that an event lacks, or what one that is
+    /// not in place contradicts.
     pub detail: Option<FaultDetail>,
     /// What is sent and what is recorded, if the replay stops since they differ.
     pub difference: Option<Pairing>,
@@ -42,8 +40,6 @@ fn found_in<W: Workflow>(
     bytes: &[u8],
 ) -> (Explanation, Vec<OtherValue>)
     ensures verdict { IsVerdict W.program bytes.now result.0.verdict }
-    ensures unknown { result.0.verdict ≢ Verdict.OutOfMemory
-        → result.0.unknown ≡ unknown_in W.program (history bytes.now) }
     ensures difference { result.0.verdict ≢ Verdict.OutOfMemory
         → IsDifferenceIn W.program bytes.now result.0.difference }
     ensures warnings { result.0.verdict ≢ Verdict.OutOfMemory
@@ -51,9 +47,9 @@ fn found_in<W: Workflow>(
     ensures none { result.0.verdict ≡ Verdict.OutOfMemory → result.1.items ≡ [] }
 {
     if options.strict_values {
-        check_values::<W>(alloc, bytes)
+        replay_with_values::<W>(alloc, bytes)
     } else {
-        (check_file::<W>(alloc, bytes), Vec::new(alloc))
+        (replay_file::<W>(alloc, bytes), Vec::new(alloc))
     }
 }
 
@@ -78,7 +74,6 @@ fn no_memory(alloc: Global, name: Text) -> Record
 /// The record of a file, whose bytes are kept no longer, with warnings if values are strict. Its
 /// verdict is `OutOfMemory` also if there was no memory to read the bytes once more for the detail
 /// of a fault.
-#[tactic(auto, using(wh_file_faults::proofs::Details::detail_along))]
 pub fn record_of<W: Workflow>(
     alloc: Global,
     options: ReplayOptions,
@@ -90,12 +85,11 @@ pub fn record_of<W: Workflow>(
     let (explanation, warnings) = found_in::<W>(alloc, options, bytes.as_slice());
     let Explanation {
         verdict,
-        unknown,
         difference,
         tasks,
     } = explanation;
     drop(tasks);
-    let detail = file_detail(alloc, unknown, &verdict, bytes.as_slice());
+    let detail = file_detail(alloc, &verdict, bytes.as_slice());
     drop(bytes);
     let name = Text::new(name);
     match detail {
@@ -122,7 +116,7 @@ pub fn record_of<W: Workflow>(
 /// Out of memory within a file's replay is that file's verdict. The fault is that of an input that
 /// can't be read, as `read` gives it, or `InputFault::OutOfMemory` if there is no memory for the
 /// list.
-pub fn check_all<
+pub fn replay_inputs<
     W: Workflow + Send,
     R: Threads + Sync,
     T: Send + Drop,

@@ -4,8 +4,9 @@ ghost use Rattle.std.specs.Prelude.{◌≡◌, ◌≢◌, ◌++◌, ◌∷◌, [
 ghost use Rattle.std.specs.List.{flat_map, list_all, list_any};
 ghost use Rattle.std.specs.Io.KnownBytes.{Appends};
 ghost use Rattle.wh_phrases.specs.Json.{difference_members};
-ghost use Rattle.wh_file_faults.specs.DetailTexts.{detail_members};
+ghost use Rattle.wh_file_faults.specs.DetailTexts.{detail_members, type_members};
 ghost use Rattle.wh_tester.specs.Json.{following};
+ghost use Rattle.wh_tester.specs.UnknownTypes.{unregistered_type};
 ghost use Rattle.wh_phrases.specs.Texts.{value_object};
 ghost use Rattle.wh_tester.specs.Report.{all_good, good_count, is_good, line_text};
 ghost use Rattle.wh_report.specs.Reports.{json_record, lines_of, members_after, object_after, records_status, report_as, report_of, some_value, warning_members};
@@ -14,7 +15,7 @@ use crate::records::Record;
 use std::io;
 use std::io::Write;
 use wh_console::{Format, ReplayOptions};
-use wh_file_faults::{CommandFault, FaultDetailMembers};
+use wh_file_faults::{CommandFault, FaultDetailMembers, NoCodeMember};
 use wh_phrases::{DifferenceMembers, OtherValue, OtherValueObject};
 use wh_tester::{Line, is_good, write_json_totals, write_line, write_open_json_line, write_totals};
 
@@ -132,13 +133,15 @@ fn write_warnings<O: Write>(values: &[OtherValue], writer: &mut O) -> io::Result
 
 /// Writes the members of a file that stand after the text of its fault, but for its warnings.
 fn write_notes<O: Write>(own: &Record, writer: &mut O) -> io::Result<()>
-    ensures { let detail = following (detail_members own.now.detail) in
+    ensures { let kind = following (type_members (unregistered_type own.now.line.verdict)) in
+        let detail = following (detail_members own.now.detail) in
         let difference = following (difference_members own.now.difference) in
-        OnOk result (Appends (O.contents writer.old) (O.contents writer.new) (detail ++ difference)) }
+        OnOk result (Appends (O.contents writer.old) (O.contents writer.new) (kind ++ (detail ++ difference))) }
 {
+    let kind = NoCodeMember(&own.line.verdict);
     let detail = FaultDetailMembers(own.detail.as_ref());
     let difference = DifferenceMembers(own.difference.as_ref());
-    write!(writer, "{detail}{difference}")
+    write!(writer, "{kind}{detail}{difference}")
 }
 
 /// Writes the members of a file that stand after the text of its fault.
@@ -174,9 +177,8 @@ fn write_objects<O: Write>(records: &[Record], writer: &mut O) -> io::Result<()>
 /// Writes the report of records: a line for each file, in their order, and then a line with the
 /// number of files and of good ones. As JSON (RFC 8259) each is an object, that of a file as
 /// `wh_tester::write_json_line` writes it, and that of the totals with `files` and `ok`. The object
-/// of a file has after the text of its fault: what that omits, as
-/// `wh_file_faults::FaultDetailMembers` writes it; what is sent and what is recorded, if they
-/// differ; and `warnings`, the list of its values that differ, each with `event`, `kind`, `sent` and
+/// of a file has after the text of its fault: what that omits, as `wh_file_faults::NoCodeMember` and
+/// `wh_file_faults::FaultDetailMembers` write it; what is sent and what is recorded, if they differ; and `warnings`, the list of its values that differ, each with `event`, `kind`, `sent` and
 /// `recorded`, if there are some. Each line goes to the writer as it is made. After an error some
 /// of the report may have been written.
 pub fn write_report<O: Write>(records: &[Record], format: Format, writer: &mut O) -> io::Result<()>
@@ -198,7 +200,7 @@ pub fn write_report<O: Write>(records: &[Record], format: Format, writer: &mut O
 
 /// Writes the report of records in the format that options ask for, and gives its status: 1 if a
 /// file is not good, and else 3 if values of one differ, and 0 if none do. The other options change
-/// nothing here: `check_all` obeys `strict_values` when it makes the records, and `require_files` and
+/// nothing here: `replay_inputs` obeys `strict_values` when it makes the records, and `require_files` and
 /// `progress` are for who lists the files, as `replay_paths` of `wh_replay_command`.
 pub fn report<O: Write>(
     records: &[Record],

@@ -1,6 +1,6 @@
 -- What is told of a file that is not JSON, or whose workflow type is not registered.
 use Rattle.std.proofs.Common.{◌≡◌, ◌∙◌, ℕ, Bool, true, false, List, None, Some, ap, refl, subst, sym}
-use Rattle.std.specs.Prelude.{◌≢◌, Option, Result, Ok, Err, IfOk, if◌then◌else◌, not, option_map}
+use Rattle.std.specs.Prelude.{◌≢◌, Option, Result, Ok, Err, IfOk, IsSome, if◌then◌else◌, not}
 use Rattle.wh_events.specs.Places.{history_fault}
 use Rattle.wh_events.specs.declared.event.Event.{Event}
 use Rattle.wh_events.specs.declared.memory.OutOfMemory.{OutOfMemory}
@@ -16,55 +16,69 @@ use Rattle.wh_workflow.specs.Law.{Program}
 use Rattle.wh_file_faults.specs.declared.detail.FaultDetail.{FaultDetail}
 use Rattle.wh_file_faults.specs.declared.detail.FaultDetail.TheVariants.{NotJson}
 use Rattle.wh_service.specs.declared.file_faults.FileFault.{FileFault}
-use Rattle.wh_file_faults.specs.Details.{IsJsonDetail, no_code}
-use Rattle.wh_service.specs.Faults.{HasHistory, IsCodeDetail, IsFaultOf, IsReadDetailIn}
+use Rattle.wh_tester.specs.declared.line.Verdict.TheVariants.{NoCode, Unreadable}
+use Rattle.wh_file_faults.specs.Details.{IsJsonDetail, IsNoJson}
+use Rattle.wh_service.specs.Faults.{HasHistory, IsCodeFault, IsFaultOf, IsJsonFault, IsReadFault, IsReadFaultIn}
 use Rattle.wh_file_faults.proofs.Unread.{no_json_read, read_no_json, valued}
 
--- bytes that are JSON have no other detail than that there is no code
-read_detail : {S : Type 0} (program : Program S) (bytes : List ℕ) (unknown : Option (List ℕ)) → unknown_in program (history bytes) ≡ unknown → document_within bytes ≢ Err BadJson → IsReadDetailIn program bytes (no_code unknown)
-read_detail program bytes None is json = (json, is)
-read_detail program bytes (Some kind) is json = is
+-- a history that was read is JSON, and told of only if its workflow type is not registered
+code_told : {S : Type 0} (program : Program S) (bytes : List ℕ) (events : List Event) (fault : Option FileFault) → history bytes ≡ Ok events → IsCodeFault program bytes fault → IsReadFaultIn program bytes fault
+code_told program bytes events None read h = ((λ broken. (let unread = no_json_read bytes broken in cc)), h)
+code_told program bytes events (Some fault) read h =
+    subst (λ v. IsReadFault program bytes v fault.detail) (sym h.2) (subst (IsReadFault program bytes (NoCode h.0)) (sym h.3) h.1)
 
--- so it is with a history that was read
-pub code_detail : {S : Type 0} (program : Program S) (bytes : List ℕ) (events : List Event) (detail : Option FaultDetail) → history bytes ≡ Ok events → IsCodeDetail program bytes detail → IsReadDetailIn program bytes detail
-code_detail program bytes events detail read h = subst (IsReadDetailIn program bytes) (sym h) (read_detail program bytes (unknown_in program (history bytes)) refl (λ broken. (let unread = no_json_read bytes broken in cc)))
+-- bytes that were read as no JSON are told of as that
+json_by : {S : Type 0} (program : Program S) (bytes : List ℕ) (detail : Option FaultDetail) → history bytes ≡ Err BadJson → IsSome detail → IsJsonDetail bytes detail → IsReadFault program bytes (Unreadable BadJson) detail
+json_by program bytes None read some h = absurd (cc)
+json_by program bytes (Some (NotJson position mark)) read some h = (read_no_json bytes read h.no_json, h.marked)
+json_by program bytes (Some _) read some h = absurd h
 
--- bytes that were read as no JSON have that detail
-pub json_detail : {S : Type 0} (program : Program S) (bytes : List ℕ) (detail : Option FaultDetail) → history bytes ≡ Err BadJson → IsJsonDetail bytes detail → IsReadDetailIn program bytes detail
-json_detail program bytes None read h = (valued bytes h, ap (unknown_in program) read)
-json_detail program bytes (Some (NotJson position mark)) read h = (read_no_json bytes read h.no_json, h.marked)
-json_detail program bytes (Some _) read h = absurd h
+json_told : {S : Type 0} (program : Program S) (bytes : List ℕ) (fault : Option FileFault) → history bytes ≡ Err BadJson → IsJsonFault bytes fault → IsReadFaultIn program bytes fault
+json_told program bytes None read h = (valued bytes h, ap (unknown_in program) read)
+json_told program bytes (Some fault) read h =
+    subst (λ v. IsReadFault program bytes v fault.detail) (sym h.0) (json_by program bytes fault.detail read h.1 h.2)
 
--- bytes that can't be read for another reason have no detail
-pub no_detail : {S : Type 0} (program : Program S) (bytes : List ℕ) (fault : ReadFault) → history bytes ≡ Err fault → fault ≢ BadJson → IsReadDetailIn program bytes None
-no_detail program bytes fault read other = (λ broken. (let unread = no_json_read bytes broken in other (let same : fault ≡ BadJson = cc in same)), ap (unknown_in program) read)
+-- bytes that can't be read for another reason are not told of
+none_told : {S : Type 0} (program : Program S) (bytes : List ℕ) (fault : ReadFault) → history bytes ≡ Err fault → fault ≢ BadJson → IsReadFaultIn program bytes None
+none_told program bytes fault read other = (λ broken. (let unread = no_json_read bytes broken in other (let same : fault ≡ BadJson = cc in same)), ap (unknown_in program) read)
+
+-- the faults that are made of that
+pub made_json : (name bytes : List ℕ) (detail : FaultDetail) (answer : Result (Option FileFault) OutOfMemory) → IfOk answer (λ fault. fault ≡ Some (record { line = record { name = name; verdict = Unreadable BadJson }; detail = Some detail }))
+    → IsNoJson bytes detail → IfOk answer (IsFaultOf IsJsonFault name bytes)
+made_json name bytes detail (Ok fault) is own = subst (IsFaultOf IsJsonFault name bytes) (sym is) (record { named = refl; told = (refl, refl, own) })
+made_json name bytes detail (Err full) is own = tt
+
+pub made_code : {S : Type 0} (program : Program S) (name bytes kind : List ℕ) (answer : Result (Option FileFault) OutOfMemory) → IfOk answer (λ fault. fault ≡ Some (record { line = record { name = name; verdict = NoCode kind }; detail = None }))
+    → unknown_in program (history bytes) ≡ Some kind → IfOk answer (IsFaultOf (IsCodeFault program) name bytes)
+made_code program name bytes kind (Ok fault) is own = subst (IsFaultOf (IsCodeFault program) name bytes) (sym is) (record { named = refl; told = (kind, own, refl, refl) })
+made_code program name bytes kind (Err full) is own = tt
 
 -- so it is with the faults
-pub of_code : {S : Type 0} (program : Program S) (name bytes : List ℕ) (events : List Event) (fault : Option FileFault) → history bytes ≡ Ok events → IsFaultOf (IsCodeDetail program) name bytes fault → IsFaultOf (IsReadDetailIn program) name bytes fault
-of_code program name bytes events fault read h = record { named = h.named; detail = code_detail program bytes events (option_map (λ one. one.detail) fault) read h.detail }
+pub of_code : {S : Type 0} (program : Program S) (name bytes : List ℕ) (events : List Event) (fault : Option FileFault) → history bytes ≡ Ok events → IsFaultOf (IsCodeFault program) name bytes fault → IsFaultOf (IsReadFaultIn program) name bytes fault
+of_code program name bytes events fault read h = record { named = h.named; told = code_told program bytes events fault read h.told }
 
-pub of_json : {S : Type 0} (program : Program S) (name bytes : List ℕ) (answer : Result (Option FileFault) OutOfMemory) → history bytes ≡ Err BadJson → IfOk answer (IsFaultOf IsJsonDetail name bytes) → IfOk answer (IsFaultOf (IsReadDetailIn program) name bytes)
-of_json program name bytes (Ok fault) read h = record { named = h.named; detail = json_detail program bytes (option_map (λ one. one.detail) fault) read h.detail }
+pub of_json : {S : Type 0} (program : Program S) (name bytes : List ℕ) (answer : Result (Option FileFault) OutOfMemory) → history bytes ≡ Err BadJson → IfOk answer (IsFaultOf IsJsonFault name bytes) → IfOk answer (IsFaultOf (IsReadFaultIn program) name bytes)
+of_json program name bytes (Ok fault) read h = record { named = h.named; told = json_told program bytes fault read h.told }
 of_json program name bytes (Err full) read h = tt
 
-pub of_none : {S : Type 0} (program : Program S) (name bytes : List ℕ) (why : ReadFault) → history bytes ≡ Err why → why ≢ BadJson → IsFaultOf (IsReadDetailIn program) name bytes None
-of_none program name bytes why read other = record { named = tt; detail = no_detail program bytes why read other }
+pub of_none : {S : Type 0} (program : Program S) (name bytes : List ℕ) (why : ReadFault) → history bytes ≡ Err why → why ≢ BadJson → IsFaultOf (IsReadFaultIn program) name bytes None
+of_none program name bytes why read other = record { named = tt; told = none_told program bytes why read other }
 
 -- the workflow type without code of a history in place is that of the bytes that it is read of
 pub uncoded : {S : Type 0} (program : Program S) (bytes : List ℕ) (events : List Event) → HasHistory bytes events → unknown_in program (history bytes) ≡ unknown_placed program (Ok events)
 uncoded program bytes events has =
     ap (unknown_in program) has.0 ∙ ap (λ fault. unknown_placed program (in_place fault events)) has.1
 
--- a history without such a type has no detail
-of_known : {S : Type 0} (program : Program S) (name bytes : List ℕ) (events : List Event) → history bytes ≡ Ok events → unknown_in program (Ok events) ≡ None → IsFaultOf (IsReadDetailIn program) name bytes None
-of_known program name bytes events read known = record { named = tt; detail = code_detail program bytes events None read (sym (ap no_code (ap (unknown_in program) read ∙ known))) }
+-- a history without such a type is not told of
+of_known : {S : Type 0} (program : Program S) (name bytes : List ℕ) (events : List Event) → history bytes ≡ Ok events → unknown_in program (Ok events) ≡ None → IsFaultOf (IsReadFaultIn program) name bytes None
+of_known program name bytes events read known = record { named = tt; told = code_told program bytes events None read (ap (unknown_in program) read ∙ known) }
 
 -- as one that is not in place
-pub of_misplaced : {S : Type 0} (program : Program S) (name bytes : List ℕ) (events : List Event) (fault : Fault) → history bytes ≡ Ok events → in_place (history_fault events) events ≡ Err fault → IsFaultOf (IsReadDetailIn program) name bytes None
+pub of_misplaced : {S : Type 0} (program : Program S) (name bytes : List ℕ) (events : List Event) (fault : Fault) → history bytes ≡ Ok events → in_place (history_fault events) events ≡ Err fault → IsFaultOf (IsReadFaultIn program) name bytes None
 of_misplaced program name bytes events fault read misplaced = of_known program name bytes events read (ap (unknown_placed program) misplaced)
 
 -- or one for whose workflow type there is code
-pub of_coded : {S : Type 0} (program : Program S) (name bytes : List ℕ) (events : List Event) → history bytes ≡ Ok events → not (program.knows (workflow_of events)) ≡ false → IsFaultOf (IsReadDetailIn program) name bytes None
+pub of_coded : {S : Type 0} (program : Program S) (name bytes : List ℕ) (events : List Event) → history bytes ≡ Ok events → not (program.knows (workflow_of events)) ≡ false → IsFaultOf (IsReadFaultIn program) name bytes None
 of_coded program name bytes events read coded = of_known program name bytes events read (by_fault (history_fault events))
   where
     by_test : (b : Bool) → not b ≡ false → (if b then None else Some (workflow_of events)) ≡ None

@@ -1,5 +1,5 @@
 -- What a service is, by what is left of its host.
-use Rattle.std.proofs.Common.{◌≡◌, ◌∙◌, ℕ, ◌<◌, List, length, map, sym, ap, subst}
+use Rattle.std.proofs.Common.{◌≡◌, ◌∙◌, ℕ, ◌<◌, List, length, map, sym, ap}
 use Rattle.std.specs.Prelude.{All, Bool, Vec, is_none, get_or, Option, Result, Ok, Err, IfOk}
 use Rattle.std.specs.declared.alloc.Global.{Global}
 use Rattle.std.specs.List.{list_all, list_any}
@@ -12,13 +12,8 @@ use Rattle.wh_service.specs.declared.failures.FileFailure.{FileFailure}
 use Rattle.wh_service.specs.declared.service.PendingReport.{PendingReport}
 use Rattle.wh_service.specs.declared.service.ServiceEnd.{ServiceEnd}
 use Rattle.wh_service.specs.Services.{IsEndOf, IsServed, IsServiceEnd}
-use Rattle.wh_workflow.specs.Law.{Program}
-use Rattle.wh_service.specs.Faults.{AreFaultsOf}
 use Rattle.wh_service.specs.declared.file_faults.FileFault.{FileFault}
-use Rattle.wh_service.specs.Services.{IsServiceEndOver}
-use Rattle.wh_file_faults.proofs.Collected.{as_they_are}
-use Rattle.wh_file_faults.specs.Faults.{File}
-use Rattle.wh_service.specs.Readings.{reading_of, Reading}
+use Rattle.wh_service.specs.Readings.{Reading}
 use Rattle.wh_service.specs.Rows.{rows_from, failures_from}
 use Rattle.wh_service.specs.Assignment.{no_source, assigned_as, assigned_to}
 use Rattle.wh_service.specs.Services.{HostsBy, ServiceSetup, ServiceHost, HasItsTurns, AreSetups, IsServiceWith}
@@ -97,21 +92,6 @@ end_by hosts other config readings old new end weaker h = record {
 -- what a closure that runs a host may leave, beside its captures
 abbrev pub by_closure : HostsBy → HostsBy
 by_closure hosts config setups left = Config × Unit {0} × hosts config setups left
-
--- the end of a service by a closure, over files that were read as they are
-pub end_of_files : {S : Type 0} (program : Program S) (hosts : HostsBy) (config : Config) (files : List File) (old new : Option (List ℕ)) (end : ServiceEnd)
-    → IsServiceEndOver (λ input file. file ≡ input) program (by_closure hosts) config files old new end
-    → IsServiceEnd hosts config (map reading_of files) old new end
-end_of_files program hosts config files old new end h =
-    subst (λ l. IsServiceEnd hosts config l old new end) (ap (λ l. map reading_of l) (as_they_are files h.files h.from))
-    (end_by (by_closure hosts) hosts config (map reading_of h.files) old new end (λ setups left hosted. hosted.2) h.ended)
-
--- what is reported of these files is theirs
-pub faults_of_files : {S : Type 0} (program : Program S) (hosts : HostsBy) (config : Config) (files : List File) (old new : Option (List ℕ)) (end : ServiceEnd)
-    → IsServiceEndOver (λ input file. file ≡ input) program hosts config files old new end
-    → AreFaultsOf program files end.file_faults.items
-faults_of_files program hosts config files old new end h =
-    subst (λ l. AreFaultsOf program l end.file_faults.items) (as_they_are files h.files h.from) h.faults
 
 -- the end of what was served of files is the end of a service of them
 pub end_of_served : (hosts : HostsBy) (config : Config) (readings : List Reading) (faults : List FileFault) (served : PendingReport) (old new : Option (List ℕ)) (end : ServiceEnd)

@@ -1,12 +1,8 @@
 -- What a service of recorded histories did, and its status.
 use Rattle.std.specs.Prelude.{◌≡◌, ℕ, ◌+◌, ◌<◌, ◌&&◌, List, length, map, get_or, min, codes, All, Bool, false, Option, is_none, Result, Ok, Err, Vec, vec_len, if◌then◌else◌, eqb}
-use Rattle.std.specs.List.{AllZip, list_all, list_any}
+use Rattle.std.specs.List.{list_all, list_any}
 use Rattle.std.specs.Io.KnownBytes.{Appends}
 use Rattle.std.specs.declared.alloc.Global.{Global}
-use Rattle.wh_file_faults.specs.Faults.{File}
-use Rattle.wh_file_faults.specs.Made.{IsFaultIn}
-use Rattle.wh_console.specs.declared.files.InputFault.{InputFault}
-use Rattle.wh_file_faults.specs.declared.command_fault.CommandFault.TheVariants.{OutOfMemory}
 use Rattle.wh_json.specs.declared.fault.ReadFault.{ReadFault}
 use Rattle.wh_slots.specs.declared.sizes.Config.{Config}
 use Rattle.wh_host.specs.declared.reply.Totals.{Totals}
@@ -29,11 +25,8 @@ use Rattle.wh_service.specs.declared.rows.FileCounts.{FileCounts}
 use Rattle.wh_service.specs.declared.rows.FileRow.{FileRow}
 use Rattle.wh_service.specs.declared.service.PendingReport.{PendingReport}
 use Rattle.wh_service.specs.declared.service.ServiceEnd.{ServiceEnd}
-use Rattle.wh_service.specs.declared.service.ServiceFault.{ServiceFault}
-use Rattle.wh_service.specs.declared.service.ServiceFault.TheVariants.{Input, Report}
-use Rattle.wh_service.specs.Faults.{AreFaultsOf}
 use Rattle.wh_service.specs.Assignment.{assigned_as, assigned_to, no_source}
-use Rattle.wh_service.specs.Readings.{Reading, reading_of}
+use Rattle.wh_service.specs.Readings.{Reading}
 use Rattle.wh_service.specs.Rows.{failures_from, rows_from}
 use Rattle.wh_service.specs.Texts.{service_text}
 
@@ -153,22 +146,3 @@ pub record IsServiceEnd (hosts : HostsBy) (config : Config) (readings : List Rea
   pub service : IsServiceWith hosts config readings rows totals end.faultless end.failures.items end.uncompared
   pub written : Appends old new (service_text rows totals)
   pub ends : end.status ≡ status_of end.faultless rows totals
-
--- the end of a service of inputs: each was read as a file, in their order, and the service is of these files, as is
--- what is reported of them
-pub record IsServiceEndOver {S T : Type 0} (Reads : T → File → Type 0) (program : Program S) (hosts : HostsBy)
-    (config : Config) (inputs : List T) (old new : Option (List ℕ)) (end : ServiceEnd) : Type 0 where
-  pub files : List File
-  pub from : AllZip Reads inputs files
-  pub ended : IsServiceEnd hosts config (map reading_of files) old new end
-  pub faults : AreFaultsOf program files end.file_faults.items
-
--- nothing was written: an input cannot be read, or there was no memory
-abbrev pub IsUnwritten : ServiceFault → Type 0
-IsUnwritten (Input fault) = Unit {0}
-IsUnwritten (Report fault) = fault ≡ OutOfMemory
-
--- why there is no service of inputs: the fault of one of them, as a reader gives it, or another one
-abbrev pub IsUnserved : {T : Type 0} → (T → InputFault → Type 0) → List T → ServiceFault → Type 0
-IsUnserved Refuses inputs (Input fault) = IsFaultIn Refuses inputs fault
-IsUnserved Refuses inputs (Report fault) = Unit {0}

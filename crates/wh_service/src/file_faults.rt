@@ -1,24 +1,46 @@
 //! Files that are not JSON, and where, and files whose workflow type is not registered.
 
-ghost use Rattle.std.specs.Prelude.{◌≡◌, ℕ, List, ◌++◌, [], ◌∷◌, IfOk, OnOk, map};
+ghost use Rattle.std.specs.Prelude.{◌≡◌, ℕ, List, ◌++◌, [], ◌∷◌, IfOk, OnOk, Some, map};
 ghost use Rattle.std.specs.List.{flat_map};
-ghost use Rattle.wh_file_faults.specs.Details.{IsJsonDetail};
-ghost use Rattle.wh_service.specs.Faults.{HasHistory, IsCodeDetail, IsFaultOf, reported_of};
+ghost use Rattle.wh_service.specs.Faults.{HasHistory, IsCodeFault, IsFaultOf, IsJsonFault, reported_of};
 
 use std::alloc::Global;
 use wh_events::{OutOfMemory, Text};
 use wh_file_faults::{FaultDetail, json_detail};
+use wh_json::ReadFault;
 use wh_machines::Track;
-use wh_tester::unknown_type;
+use wh_tester::{Line, Verdict, unknown_type};
 use wh_workflow::Workflow;
 
 /// A file that is not JSON or whose workflow type is not registered.
 #[derive(Drop)]
 pub struct FileFault {
-    /// The name of the file.
-    pub name: Text,
-    /// Where it is not JSON, or its workflow type.
-    pub detail: FaultDetail,
+    /// Its name, and that as its verdict.
+    pub line: Line,
+    /// Where it is not JSON.
+    pub detail: Option<FaultDetail>,
+}
+
+/// Returns the fault of a file of this name.
+fn fault_of(
+    alloc: Global,
+    name: &str,
+    verdict: Verdict,
+    detail: Option<FaultDetail>,
+) -> Result<Option<FileFault>, OutOfMemory>
+    ensures { IfOk result (λ fault. fault ≡ Some (record {
+      line = record { name = name.now; verdict = verdict };
+      detail = detail;
+    })) }
+{
+    let Ok(name) = String::from_str(alloc, name) else {
+        return Err(OutOfMemory);
+    };
+    let name = Text::new(name);
+    Ok(Some(FileFault {
+        line: Line { name, verdict },
+        detail,
+    }))
 }
 
 /// Returns where a file is not JSON, if it is not. `OutOfMemory` if there was no memory to read it
@@ -28,32 +50,31 @@ pub(crate) fn json_fault(
     name: &str,
     bytes: &[u8],
 ) -> Result<Option<FileFault>, OutOfMemory>
-    ensures { IfOk result (IsFaultOf IsJsonDetail name.now bytes.now) }
+    ensures { IfOk result (IsFaultOf IsJsonFault name.now bytes.now) }
 {
-    let Some(detail) = json_detail(alloc, bytes)? else {
+    let found = json_detail(alloc, bytes)?;
+    let Some(detail) = found else {
         return Ok(None);
     };
-    let name = Text::new(String::from_str(alloc, name)?);
-    Ok(Some(FileFault { name, detail }))
+    let verdict = Verdict::Unreadable(ReadFault::BadJson);
+    fault_of(alloc, name, verdict, Some(detail))
 }
 
 /// Returns the workflow type of a history whose events are in place, if it is not registered, as
 /// the fault of the file that it was read from. `OutOfMemory` if there was no memory for the names.
-#[tactic(auto, using(crate::proofs::Faults::uncoded))]
 pub(crate) fn code_fault<W: Workflow>(
     alloc: Global,
     name: &str,
     track: &Track,
 ) -> Result<Option<FileFault>, OutOfMemory>
     ensures { (bytes : List ℕ) → HasHistory bytes track.now
-        → IfOk result (IsFaultOf (IsCodeDetail W.program) name.now bytes) }
+        → IfOk result (IsFaultOf (IsCodeFault W.program) name.now bytes) }
 {
-    let Some(kind) = unknown_type::<W>(alloc, track)? else {
+    let unknown = unknown_type::<W>(alloc, track)?;
+    let Some(kind) = unknown else {
         return Ok(None);
     };
-    let name = Text::new(String::from_str(alloc, name)?);
-    let detail = FaultDetail::NoCode { kind };
-    Ok(Some(FileFault { name, detail }))
+    fault_of(alloc, name, Verdict::NoCode { kind }, None)
 }
 
 /// Adds the fault of a file, if it has one.

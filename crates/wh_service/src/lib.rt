@@ -18,6 +18,4 @@ pub use file_faults::FileFault;
 pub use host::{ServiceHost, ServiceSetup, host_of};
 pub use readings::{ReadFiles, read_inputs};
 pub use rows::{FileCounts, FileRow};
-pub use service::{
-    PendingReport, ServiceEnd, ServiceFault, report_served, serve_files, serve_inputs, serve_read,
-};
+pub use service::{PendingReport, ServiceEnd, report_served, serve_read};

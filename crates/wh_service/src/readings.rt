@@ -5,7 +5,7 @@ ghost use Rattle.wh_file_faults.specs.Made.{IsFaultIn};
 ghost use Rattle.wh_console.specs.declared.files.InputFault.TheVariants.{OutOfMemory as InputMemory};
 ghost use Rattle.wh_json.specs.Events.{history};
 ghost use Rattle.wh_replay.specs.Replays.{workflow_of};
-ghost use Rattle.wh_service.specs.Faults.{HasHistory, IsFaultOf, IsReadDetailIn, IsReportedOf};
+ghost use Rattle.wh_service.specs.Faults.{HasHistory, IsFaultOf, IsReadFaultIn, IsReportedOf};
 ghost use Rattle.wh_service.specs.Made.{IsMadeOf};
 ghost use Rattle.wh_service.specs.Readings.{AreRead, HasRead, IsReading, faulty_of, is_unread, reading, readings_of};
 
@@ -115,7 +115,7 @@ fn with_code_fault<W: Workflow>(
 ) -> Result<(Vec<Event>, Option<FileFault>), InputFault>
     requires { HasHistory bytes.now track }
     ensures events { IfOk result (λ own. history bytes.now ≡ Ok own.0.items) }
-    ensures fault { IfOk result (λ own. IsFaultOf (IsReadDetailIn W.program) name.now bytes.now own.1) }
+    ensures fault { IfOk result (λ own. IsFaultOf (IsReadFaultIn W.program) name.now bytes.now own.1) }
     ensures memory { IfErr result (λ fault. fault ≡ InputMemory) }
 {
     match code_fault::<W>(alloc, name, &track) {
@@ -126,7 +126,7 @@ fn with_code_fault<W: Workflow>(
 
 /// A history, and its workflow type, which is not registered, if its events are in place. Only if
 /// they are not, its bytes are parsed once more.
-fn checked_history<W: Workflow>(
+fn placed_history<W: Workflow>(
     alloc: Global,
     name: &str,
     events: Vec<Event>,
@@ -134,7 +134,7 @@ fn checked_history<W: Workflow>(
 ) -> Result<(Vec<Event>, Option<FileFault>), InputFault>
     requires { history bytes.now ≡ Ok events.items }
     ensures events { IfOk result (λ own. history bytes.now ≡ Ok own.0.items) }
-    ensures fault { IfOk result (λ own. IsFaultOf (IsReadDetailIn W.program) name.now bytes.now own.1) }
+    ensures fault { IfOk result (λ own. IsFaultOf (IsReadFaultIn W.program) name.now bytes.now own.1) }
     ensures memory { IfErr result (λ fault. fault ≡ InputMemory) }
 {
     match track_of(alloc, events) {
@@ -153,11 +153,11 @@ fn with_fault<W: Workflow>(
 ) -> Result<(Vec<Event>, Option<FileFault>), InputFault>
     requires { history bytes.now ≡ Ok events.items }
     ensures events { IfOk result (λ own. history bytes.now ≡ Ok own.0.items) }
-    ensures fault { IfOk result (λ own. IsFaultOf (IsReadDetailIn W.program) name.now bytes.now own.1) }
+    ensures fault { IfOk result (λ own. IsFaultOf (IsReadFaultIn W.program) name.now bytes.now own.1) }
     ensures memory { IfErr result (λ fault. fault ≡ InputMemory) }
 {
     if lacks_code::<W>(events.as_slice()) {
-        checked_history::<W>(alloc, name, events, bytes)
+        placed_history::<W>(alloc, name, events, bytes)
     } else {
         Ok((events, None))
     }
@@ -172,7 +172,7 @@ fn unread_fault<W: Workflow>(
     bytes: &[u8],
 ) -> Result<Option<FileFault>, OutOfMemory>
     requires { history bytes.now ≡ Err fault.now }
-    ensures { IfOk result (IsFaultOf (IsReadDetailIn W.program) name.now bytes.now) }
+    ensures { IfOk result (IsFaultOf (IsReadFaultIn W.program) name.now bytes.now) }
 {
     match fault {
         ReadFault::BadJson => json_fault(alloc, name, bytes),
@@ -189,7 +189,7 @@ fn unread_file<W: Workflow>(
 ) -> Result<(ReadFile, Option<FileFault>), InputFault>
     requires { history bytes.now ≡ Err fault }
     ensures reading { IfOk result (λ made. reading made.0 ≡ (string_bytes name, history bytes.now)) }
-    ensures fault { IfOk result (λ made. IsFaultOf (IsReadDetailIn W.program) (string_bytes name) bytes.now made.1) }
+    ensures fault { IfOk result (λ made. IsFaultOf (IsReadFaultIn W.program) (string_bytes name) bytes.now made.1) }
     ensures memory { IfErr result (λ fault. fault ≡ InputMemory) }
 {
     match unread_fault::<W>(alloc, name.as_str(), &fault, bytes) {

@@ -1,39 +1,24 @@
 //! Recorded histories are served by a host, and the report is written.
 
-ghost use Rattle.std.specs.Prelude.{◌≡◌, ◌≢◌, Ok, Err, IfOk, IfErr, All, map, vec_len};
+ghost use Rattle.std.specs.Prelude.{◌≡◌, ◌≢◌, Err, IfOk, All, map};
 ghost use Rattle.wh_slots.specs.Sizes.{IsConfig};
-ghost use Rattle.wh_service.specs.Faults.{AreFaultsOf};
-ghost use Rattle.wh_service.specs.Readings.{reading, reading_of, readings_of};
-ghost use Rattle.wh_service.specs.Services.{HasItsTurns, IsEndOf, IsHost, IsHosted, IsServed, IsServiceEnd, IsServiceEndOver, IsServiceOf, IsUnserved, IsUnwritten, leaves, status_of};
+ghost use Rattle.wh_service.specs.Readings.{reading, readings_of};
+ghost use Rattle.wh_service.specs.Services.{HasItsTurns, IsEndOf, IsHost, IsServed, IsServiceOf, leaves, status_of};
 
 use crate::assignment::assign_sources;
 use crate::failures::FileFailure;
 use crate::file_faults::FileFault;
-use crate::host::{ServiceHost, ServiceSetup, host_of};
+use crate::host::{ServiceHost, ServiceSetup};
 use crate::outcomes::{Service, gather};
-use crate::readings::{ReadFile, ReadFiles, read_inputs};
+use crate::readings::{ReadFile, ReadFiles};
 use crate::rows::{are_good, write_service};
 use std::alloc::Global;
 use std::io::Write;
-use std::sync::Wait;
-use std::thread::Threads;
-use wh_console::InputFault;
 use wh_events::OutOfMemory;
 use wh_file_faults::CommandFault;
 use wh_host::Config;
 use wh_poll::{NoActivities, NoObserver, WorkerSetup};
 use wh_recorded::ScriptSource;
-use wh_workflow::Workflow;
-
-/// Why a service has no end.
-#[derive(Drop)]
-pub enum ServiceFault {
-    /// An input cannot be read, or there was no memory to read the inputs. Nothing is written.
-    Input { fault: InputFault },
-    /// There is no full report: if the fault is `Output` part of it may be written, and else
-    /// nothing is.
-    Report { fault: CommandFault },
-}
 
 /// A setup for each source: without activities, without an observer, and with as many turns as the
 /// source has tasks, and one more for each kind of tasks, by which the worker learns that there are
@@ -169,109 +154,5 @@ pub fn report_served<O: Write>(
             file_faults,
         }),
         Err(_) => Err(CommandFault::Output),
-    }
-}
-
-/// Serves the tasks of files that were read, and writes the report. Nothing is written if the
-/// answer is `OutOfMemory`.
-fn serve_and_report<F: Fn(Config, Vec<ServiceSetup>) -> Result<ServiceHost, OutOfMemory>, O: Write>(
-    alloc: Global,
-    read: ReadFiles,
-    config: Config,
-    writer: &mut O,
-    host: F,
-) -> Result<ServiceEnd, CommandFault>
-where
-    F: Drop,
-    requires sizes { IsConfig config }
-    requires runs { IsHost (F.pre host) (leaves (F.post host)) }
-    ensures report { IfOk result (IsServiceEnd (leaves (F.post host)) config (readings_of read)
-        (O.contents writer.old) (O.contents writer.new)) }
-    ensures faults { IfOk result (λ end. end.file_faults.items ≡ read.faults.items) }
-    ensures unwritten { result ≡ Err CommandFault.OutOfMemory → writer.new ≡ writer.old }
-{
-    let Ok(served) = serve_read(alloc, read, config, host) else {
-        return Err(CommandFault::OutOfMemory);
-    };
-    report_served(served, writer)
-}
-
-/// Reads inputs, serves their tasks by a host of these sizes, and writes the report: a line for
-/// each input in their order, then the totals. Each input is read, and parsed, in a thread. File by
-/// file the workers are assigned the histories in turn. Of equal names each has the counts and the
-/// failed tasks of the first that its worker was assigned. `host` runs the host, as `host_of` does.
-///
-/// `Input` has the fault of an input that can't be read, as `read` returns it, or there was no
-/// memory; nothing is written then. If the fault is `Report` with `OutOfMemory` nothing is written
-/// either, and with `Output` part of the report may be.
-pub fn serve_inputs<
-    W: Workflow + Send,
-    R: Threads + Sync,
-    T: Send + Drop,
-    G: Fn(T) -> Result<(String, Vec<u8>), InputFault> + Copy + Send + Sync,
-    F: Fn(Config, Vec<ServiceSetup>) -> Result<ServiceHost, OutOfMemory>,
-    O: Write,
->(
-    rt: &R,
-    alloc: Global,
-    inputs: Vec<T>,
-    read: G,
-    config: Config,
-    writer: &mut O,
-    host: F,
-) -> Result<ServiceEnd, ServiceFault>
-where
-    F: Drop,
-    requires sizes { IsConfig config }
-    requires reads { G.IsAlwaysCallable read }
-    requires runs { IsHost (F.pre host) (leaves (F.post host)) }
-    ensures report { IfOk result (IsServiceEndOver (λ input file. G.post read input (Ok file))
-        W.program (leaves (F.post host)) config inputs.items (O.contents writer.old) (O.contents writer.new)) }
-    ensures fault { IfErr result (IsUnserved (λ input fault. G.post read input (Err fault)) inputs.items) }
-    ensures unwritten { IfErr result (λ fault. IsUnwritten fault → writer.new ≡ writer.old) }
-{
-    let read = match read_inputs::<W, R, T, G>(rt, alloc, inputs, read) {
-        Ok(read) => read,
-        Err(fault) => return Err(ServiceFault::Input { fault }),
-    };
-    match serve_and_report(alloc, read, config, writer, host) {
-        Ok(end) => Ok(end),
-        Err(fault) => Err(ServiceFault::Report { fault }),
-    }
-}
-
-/// Serves the tasks of files that are there already, as `serve_inputs` does those of inputs.
-/// Nothing is written if the answer is `OutOfMemory`.
-pub fn serve_files<W: Workflow + Send, R: Threads + Wait + Sync, O: Write>(
-    rt: &R,
-    alloc: Global,
-    files: Vec<(String, Vec<u8>)>,
-    config: Config,
-    writer: &mut O,
-) -> Result<ServiceEnd, CommandFault>
-    requires { IsConfig config }
-    ensures report { IfOk result (IsServiceEnd (IsHosted W.program) config (map reading_of files.items)
-        (O.contents writer.old) (O.contents writer.new)) }
-    ensures faults { IfOk result (λ end. AreFaultsOf W.program files.items end.file_faults.items) }
-    ensures unwritten { result ≡ Err CommandFault.OutOfMemory → writer.new ≡ writer.old }
-{
-    match serve_inputs::<W, R, _, _, _, O>(
-        rt,
-        alloc,
-        files,
-        |file: (String, Vec<u8>)| -> Result<(String, Vec<u8>), InputFault>
-            ensures { IfOk result (λ own. own ≡ file) }
-        { Ok(file) },
-        config,
-        writer,
-        |sizes: Config, setups: Vec<ServiceSetup>| -> Result<ServiceHost, OutOfMemory>
-            requires sizes { IsConfig sizes }
-            requires seats { sizes.seats ≡ vec_len setups }
-            ensures { IfOk result (IsHosted W.program sizes setups) }
-        { host_of::<W, R>(rt, alloc, sizes, setups) },
-    ) {
-        Ok(end) => Ok(end),
-        Err(ServiceFault::Report { fault }) => Err(fault),
-        Err(ServiceFault::Input { .. }) => Err(CommandFault::OutOfMemory),
     }
 }

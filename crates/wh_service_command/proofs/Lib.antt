@@ -1,4 +1,3 @@
 pub mod Parts
 pub mod Repeats
-pub mod Sizes
 pub mod Steps

@@ -2,20 +2,20 @@
 use Rattle.std.specs.Prelude.{ℕ, List, [], ◌∷◌, ◌++◌, codes, Bool, false, not, Option, Some, None, if◌then◌else◌}
 use Rattle.std.specs.List.{flat_map, list_any}
 use Rattle.wh_diagnostics.specs.Diagnostics.{named_line}
-use Rattle.wh_diagnostics.specs.KnownTypes.{is_no_code}
-use Rattle.wh_file_faults.specs.DetailTexts.{detail_line}
+use Rattle.wh_file_faults.specs.DetailTexts.{omitted_lines}
 use Rattle.wh_service.specs.Repeats.{is_repeat, repeated_text, repeats}
 use Rattle.wh_service.specs.declared.failures.FileFailure.{FileFailure}
 use Rattle.wh_service.specs.declared.file_faults.FileFault.{FileFault}
 use Rattle.wh_service.specs.declared.service.ServiceEnd.{ServiceEnd}
+use Rattle.wh_tester.specs.UnknownTypes.{is_no_code}
 
 -- the workflow type of a file with one of these faults is not registered
 abbrev pub faults_lack_code : List FileFault → Bool
-faults_lack_code faults = list_any (λ fault. is_no_code fault.detail) faults
+faults_lack_code faults = list_any (λ fault. is_no_code fault.line.verdict) faults
 
 -- one line for each file that is not JSON, or whose workflow type is not registered
 abbrev pub fault_lines : List FileFault → List ℕ → List ℕ
-fault_lines faults name = flat_map (λ fault. detail_line fault.name fault.detail name) faults
+fault_lines faults name = flat_map (λ fault. omitted_lines fault.line fault.detail name) faults
 
 -- a failed task repeats the one before it, if there is one
 abbrev pub is_reported_before : Option FileFailure → FileFailure → Bool

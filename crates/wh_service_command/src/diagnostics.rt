@@ -2,17 +2,17 @@
 
 ghost use Rattle.std.specs.Prelude.{◌≡◌, None, OnOk, option_map};
 ghost use Rattle.std.specs.Io.KnownBytes.{Appends};
-ghost use Rattle.wh_file_faults.specs.DetailTexts.{detail_line};
+ghost use Rattle.wh_file_faults.specs.DetailTexts.{omitted_lines};
 ghost use Rattle.wh_service_command.specs.Diagnostics.{failure_line, failure_lines, fault_lines};
 ghost use Rattle.wh_service_command.specs.Diagnostics.{faults_lack_code, is_reported_before, line_if, service_lines};
 
 use std::io;
 use std::io::Write;
 use wh_console::Message;
-use wh_diagnostics::{is_no_code, write_line};
-use wh_file_faults::write_detail;
+use wh_diagnostics::write_line;
+use wh_file_faults::write_omitted;
 use wh_service::{FileFailure, FileFault, RepeatedFailure, ServiceEnd, is_repeat, repeats};
-use wh_tester::Shown;
+use wh_tester::{Shown, is_no_code};
 
 /// That a worker has a fault.
 const WORKER_FAULT: &str = "a worker has a fault: a call of its source failed";
@@ -32,15 +32,15 @@ pub(crate) struct ServiceNotes {
 pub(crate) fn faults_lack_code(faults: &[FileFault]) -> bool
     ensures { result ≡ faults_lack_code faults.now }
 {
-    faults.iter().any(|fault| is_no_code(&fault.detail))
+    faults.iter().any(|fault| is_no_code(&fault.line.verdict))
 }
 
 /// Writes that a file is not JSON, or that its workflow type is not registered.
 fn write_fault<E: Write>(fault: &FileFault, name: &str, writer: &mut E) -> io::Result<()>
     ensures { OnOk result (Appends (E.contents writer.old) (E.contents writer.new)
-        (detail_line fault.now.name fault.now.detail name.now)) }
+        (omitted_lines fault.now.line fault.now.detail name.now)) }
 {
-    write_detail(fault.name.get(), &fault.detail, name, writer)
+    write_omitted(&fault.line, &fault.detail, name, writer)
 }
 
 /// Writes one line for each file that is not JSON, or whose workflow type is not registered.

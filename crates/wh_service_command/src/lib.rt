@@ -5,7 +5,5 @@
 mod batches;
 mod diagnostics;
 mod serve;
-mod services;
 
 pub use serve::serve_folder;
-pub use services::{serve_command, serve_with_failures};

@@ -3,9 +3,8 @@ use Rattle.std.specs.Prelude.{◌≡◌, option_map}
 use Rattle.serde_json.specs.View.{view}
 use Rattle.wh_console.specs.declared.files.Input.{Input}
 use Rattle.wh_console.specs.declared.format.Format.{Format}
-use Rattle.wh_diagnostics.specs.Failures.{IsReadFailure}
 use Rattle.wh_diagnostics.specs.Printing.{HasPrinted, status_with}
-use Rattle.wh_diagnostics.specs.Readings.{Gives}
+use Rattle.wh_diagnostics.specs.Readings.{Gives, IsUnread}
 use Rattle.wh_diagnostics.specs.Walks.{Silently, Visits}
 use Rattle.wh_promise_check.specs.Findings.{AreFindingsOf}
 use Rattle.wh_table_check.specs.Checks.{table_check, status_of}
@@ -40,6 +39,6 @@ abbrev pub checks : Format → Visits TableCheck
 checks format =
     record {
       tells = Silently IsChecked;
-      stops = IsReadFailure;
+      stops = IsUnread;
       ends = λ all lacks. HasPrinted (report_as format all) (status_with lacks (status_of all));
     }

@@ -2,8 +2,7 @@
 use Rattle.std.specs.Prelude.{◌≡◌, ◌≢◌, ◌⊎◌, ℕ, List, Option, Some, None}
 use Rattle.wh_console.specs.declared.files.Input.{Input}
 use Rattle.wh_console.specs.declared.format.Format.{Format}
-use Rattle.wh_diagnostics.specs.Failures.{IsReadFailure}
-use Rattle.wh_diagnostics.specs.Readings.{Gives}
+use Rattle.wh_diagnostics.specs.Readings.{Gives, IsUnread}
 use Rattle.wh_diagnostics.specs.Walks.{Silently, Visits}
 use Rattle.wh_diagnostics.specs.declared.failures.Failure.{Failure}
 use Rattle.wh_diagnostics.specs.declared.failures.Failure.TheVariants.{OutOfMemory}
@@ -42,6 +41,6 @@ abbrev pub trials : (given : Option (List ℕ)) → Format → Visits TableTrial
 trials given format =
     record {
       tells = Silently (λ gives. IsTried gives given);
-      stops = IsReadFailure;
+      stops = IsUnread;
       ends = λ all lacks. HasReported all format lacks;
     }

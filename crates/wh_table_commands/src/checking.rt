@@ -1,7 +1,7 @@
 //! Checks the table in a file.
 
 ghost use Rattle.std.specs.Prelude.{IfErr, IfOk};
-ghost use Rattle.wh_diagnostics.specs.Failures.{IsReadFailure};
+ghost use Rattle.wh_diagnostics.specs.Readings.{IsUnread};
 ghost use Rattle.wh_table_commands.specs.Checks.{IsCheckOf, IsChecked};
 
 use crate::files::{TableFile, table_file};
@@ -34,7 +34,7 @@ pub(crate) fn check_input<R: InputReader + AllocGlobal>(
     input: Input,
 ) -> Result<TableCheck, Failure>
     ensures checked { IfOk result (IsChecked R.gives input) }
-    ensures why { IfErr result IsReadFailure }
+    ensures why { IfErr result (IsUnread input) }
 {
     let file = table_file(rt, input)?;
     let Ok((reading, own)) = read_and_check(rt.alloc(), &file) else {

@@ -1,7 +1,7 @@
 //! Reads files of tables.
 
 ghost use Rattle.std.specs.Prelude.{◌≡◌, IfErr, IfOk};
-ghost use Rattle.wh_diagnostics.specs.Failures.{IsReadFailure};
+ghost use Rattle.wh_diagnostics.specs.Readings.{IsUnread};
 ghost use Rattle.wh_table_commands.specs.Files.{IsTableOf, table_of};
 
 use wh_console::Input;
@@ -31,7 +31,7 @@ pub(crate) fn table_of(file: (String, Vec<u8>)) -> TableFile
 /// Reads an input as the file of a table.
 pub(crate) fn table_file<R: InputReader>(rt: &R, input: Input) -> Result<TableFile, Failure>
     ensures read { IfOk result (IsTableOf R.gives input) }
-    ensures why { IfErr result IsReadFailure }
+    ensures why { IfErr result (IsUnread input) }
 {
     let file = file_from(rt, input)?;
     Ok(table_of(file))

@@ -1,7 +1,7 @@
 //! Tries the table in a file on its scenario.
 
 ghost use Rattle.std.specs.Prelude.{◌≡◌, ◌≢◌, IfErr, IfOk};
-ghost use Rattle.wh_diagnostics.specs.Failures.{IsReadFailure};
+ghost use Rattle.wh_diagnostics.specs.Readings.{IsUnread};
 ghost use Rattle.wh_table_commands.specs.Trials.{IsTrialOf, IsTried, trial_lacking, trial_on};
 
 use crate::files::{TableFile, table_file};
@@ -111,7 +111,7 @@ pub(crate) fn try_input<R: InputReader + AllocGlobal>(
     given: &Option<Text>,
 ) -> Result<TableTrial, Failure>
     ensures tried { IfOk result (IsTried R.gives given.now input) }
-    ensures why { IfErr result IsReadFailure }
+    ensures why { IfErr result (IsUnread input) }
 {
     let Ok(beside) = input_beside(rt.alloc(), &input) else {
         return Err(Failure::OutOfMemory);

@@ -23,10 +23,10 @@ use Rattle.wh_json.specs.declared.fault.ReadFault.{ReadFault}
 use Rattle.wh_json.specs.declared.fault.ReadFault.TheVariants as read_faults
 use Rattle.wh_replay.specs.declared.fault.Fault.{Fault}
 use Rattle.wh_replay.specs.declared.fault.Fault.TheVariants as faults
-use Rattle.wh_tester.specs.Faults.{place_fault_name, workflow_fault_name, replay_fault_text}
+use Rattle.wh_tester.specs.Faults.{place_fault_name, workflow_fault_name, replay_fault_text, unregistered}
 use Rattle.wh_tester.specs.Report.{shown_char, shown, event_of, fault_text, good_count}
 use Rattle.wh_tester.specs.Json.{escaped_char, escaped, text_member, plain_member, following, object, event_members, verdict_members}
-use Rattle.wh_tester.specs.JsonReading.{event_json, subject_json, verdict_json, line_json, IsSmall, HasSmallNumbers, ReadsAs, LinesReadBack, TotalsReadBack}
+use Rattle.wh_tester.specs.JsonReading.{event_json, subject_json, fault_json, verdict_json, line_json, IsSmall, HasSmallNumbers, ReadsAs, LinesReadBack, TotalsReadBack}
 use Rattle.wh_tester.specs.declared.line.Verdict.{Verdict}
 use Rattle.wh_tester.specs.declared.line.Verdict.TheVariants as verdicts
 
@@ -266,6 +266,7 @@ verdict_texts (verdicts.Unreadable fault) = events (event_of fault)
         ≡ text_member (codes "verdict") (codes "unreadable") ∷ member_texts (event_json event (member (codes "fault") (string (fault_text fault)) no_members))
     events None = refl
     events (Some at) = refl
+verdict_texts (verdicts.NoCode kind) = refl
 verdict_texts (verdicts.Faulty faults.NotATask) = refl
 verdict_texts (verdicts.Faulty (faults.Place at fault)) = refl
 verdict_texts (verdicts.Faulty (faults.Workflow at fault)) = refl
@@ -273,6 +274,18 @@ verdict_texts (verdicts.Faulty (faults.Mismatch at (Different event))) = refl
 verdict_texts (verdicts.Faulty (faults.Mismatch at (CommandMissing event))) = refl
 verdict_texts (verdicts.Faulty (faults.Mismatch at (CommandExtra index))) = refl
 verdict_texts verdicts.OutOfMemory = refl
+
+fault_flat : (fault : Fault) → AreFlat (fault_json fault)
+unfolding escape_byte
+fault_flat fault = (refl, refl, subject fault (text_same (replay_fault_text fault) (replay_plain fault)))
+  where
+    subject : (about : Fault) → escape (replay_fault_text fault) ≡ escaped (replay_fault_text fault) → AreFlat (subject_json about (member (codes "fault") (string (replay_fault_text fault)) no_members))
+    subject faults.NotATask same = (refl, same, tt)
+    subject (faults.Place at f) same = (refl, tt, (refl, same, tt))
+    subject (faults.Workflow at f) same = (refl, tt, (refl, same, tt))
+    subject (faults.Mismatch at (Different event)) same = (refl, tt, (refl, same, tt))
+    subject (faults.Mismatch at (CommandMissing event)) same = (refl, tt, (refl, same, tt))
+    subject (faults.Mismatch at (CommandExtra index)) same = (refl, tt, (refl, same, tt))
 
 verdict_flat : (verdict : Verdict) → AreFlat (verdict_json verdict)
 unfolding escape_byte
@@ -282,15 +295,8 @@ verdict_flat (verdicts.Unreadable fault) = (refl, refl, events (event_of fault))
     events : (event : Option ℕ) → AreFlat (event_json event (member (codes "fault") (string (fault_text fault)) no_members))
     events None = (refl, text_same (fault_text fault) (fault_plain fault), tt)
     events (Some at) = (refl, tt, (refl, text_same (fault_text fault) (fault_plain fault), tt))
-verdict_flat (verdicts.Faulty fault) = (refl, refl, subject fault (text_same (replay_fault_text fault) (replay_plain fault)))
-  where
-    subject : (about : Fault) → escape (replay_fault_text fault) ≡ escaped (replay_fault_text fault) → AreFlat (subject_json about (member (codes "fault") (string (replay_fault_text fault)) no_members))
-    subject faults.NotATask same = (refl, same, tt)
-    subject (faults.Place at f) same = (refl, tt, (refl, same, tt))
-    subject (faults.Workflow at f) same = (refl, tt, (refl, same, tt))
-    subject (faults.Mismatch at (Different event)) same = (refl, tt, (refl, same, tt))
-    subject (faults.Mismatch at (CommandMissing event)) same = (refl, tt, (refl, same, tt))
-    subject (faults.Mismatch at (CommandExtra index)) same = (refl, tt, (refl, same, tt))
+verdict_flat (verdicts.NoCode kind) = fault_flat unregistered
+verdict_flat (verdicts.Faulty fault) = fault_flat fault
 verdict_flat verdicts.OutOfMemory = (refl, refl, tt)
 
 verdict_numbers : (verdict : Verdict) → HasSmallNumbers verdict → MembersHaveNumbers (verdict_json verdict)
@@ -300,6 +306,7 @@ verdict_numbers (verdicts.Unreadable fault) small = (tt, events (event_of fault)
     events : (event : Option ℕ) → IfSome event IsSmall → MembersHaveNumbers (event_json event (member (codes "fault") (string (fault_text fault)) no_members))
     events None small = (tt, tt)
     events (Some at) small = (IsNumber-decimal at small, (tt, tt))
+verdict_numbers (verdicts.NoCode kind) small = (tt, (IsNumber-decimal 1 (omega arith), (tt, tt)))
 verdict_numbers (verdicts.Faulty faults.NotATask) small = (tt, (tt, tt))
 verdict_numbers (verdicts.Faulty (faults.Place at fault)) small = (tt, (IsNumber-decimal at small, (tt, tt)))
 verdict_numbers (verdicts.Faulty (faults.Workflow at fault)) small = (tt, (IsNumber-decimal at small, (tt, tt)))

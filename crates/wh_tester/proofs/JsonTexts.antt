@@ -21,7 +21,7 @@ use Rattle.wh_tester.specs.declared.line.Verdict.{Verdict}
 use Rattle.wh_tester.specs.declared.line.Verdict.TheVariants as verdicts
 use Rattle.wh_tester.specs.Report.{shown_char, shown, event_of, fault_text}
 use Rattle.wh_tester.specs.Private.Report.{words_of, name_of, event_text}
-use Rattle.wh_tester.specs.Json.{escaped_char, escaped, text_member, following, subject_members, verdict_members}
+use Rattle.wh_tester.specs.Json.{escaped_char, escaped, text_member, following, subject_members, fault_members}
 use Rattle.wh_tester.proofs.FaultTexts.{text_by_parts}
 
 -- what is no quote and no backslash is not escaped
@@ -144,10 +144,9 @@ fault_after_text members text e =
         ∙ ap (λ t. codes ",\"fault\":\"" ++ (t ++ codes "\"")) e
 
 -- the members of a fault of replay
-pub fault_by_parts : (verdict : Verdict) (fault : Fault) → verdict ≡ verdicts.Faulty fault → following (verdict_members verdict) ≡ codes ",\"verdict\":\"fault\"" ++ (following (subject_members fault) ++ (codes ",\"fault\":\"" ++ (replay_fault_text fault ++ codes "\"")))
-fault_by_parts verdict fault is =
-    ap (λ v. following (verdict_members v)) is
-    ∙ ap (λ t. codes ",\"verdict\":\"fault\"" ++ t)
+pub fault_by_parts : (fault : Fault) → following (fault_members fault) ≡ codes ",\"verdict\":\"fault\"" ++ (following (subject_members fault) ++ (codes ",\"fault\":\"" ++ (replay_fault_text fault ++ codes "\"")))
+fault_by_parts fault =
+    ap (λ t. codes ",\"verdict\":\"fault\"" ++ t)
     (fault_after_text (subject_members fault) (replay_fault_text fault) (replay_fault_stays fault))
 
 -- a character that is shown is one byte

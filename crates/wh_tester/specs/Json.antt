@@ -5,7 +5,7 @@ use Rattle.wh_workflow.specs.declared.fault.Mismatch.{Mismatch}
 use Rattle.wh_workflow.specs.declared.fault.Mismatch.TheVariants.{Different, CommandMissing, CommandExtra}
 use Rattle.wh_replay.specs.declared.fault.Fault.{Fault}
 use Rattle.wh_replay.specs.declared.fault.Fault.TheVariants as faults
-use Rattle.wh_tester.specs.Faults.{replay_fault_text}
+use Rattle.wh_tester.specs.Faults.{replay_fault_text, unregistered}
 use Rattle.wh_tester.specs.Report.{shown, event_of, fault_text, good_count}
 use Rattle.wh_tester.specs.declared.line.Verdict.{Verdict}
 use Rattle.wh_tester.specs.declared.line.Verdict.TheVariants as verdicts
@@ -53,6 +53,12 @@ subject_members (faults.Place at fault) = plain_member (codes "event") (decimal 
 subject_members (faults.Workflow at fault) = plain_member (codes "task") (decimal at) ∷ []
 subject_members (faults.Mismatch at mismatch) = mismatch_members at mismatch
 
+-- the members of the verdict that replay has a fault
+abbrev pub fault_members : Fault → List (List ℕ)
+fault_members fault =
+    text_member (codes "verdict") (codes "fault")
+    ∷ (subject_members fault ++ text_member (codes "fault") (replay_fault_text fault) ∷ [])
+
 -- the members of a verdict, with the text that a fault has in the report in words
 abbrev pub verdict_members : Verdict → List (List ℕ)
 verdict_members (verdicts.Good c) =
@@ -63,9 +69,8 @@ verdict_members (verdicts.Good c) =
 verdict_members (verdicts.Unreadable fault) =
     text_member (codes "verdict") (codes "unreadable")
     ∷ (event_members (event_of fault) ++ text_member (codes "fault") (fault_text fault) ∷ [])
-verdict_members (verdicts.Faulty fault) =
-    text_member (codes "verdict") (codes "fault")
-    ∷ (subject_members fault ++ text_member (codes "fault") (replay_fault_text fault) ∷ [])
+verdict_members (verdicts.NoCode kind) = fault_members unregistered
+verdict_members (verdicts.Faulty fault) = fault_members fault
 verdict_members verdicts.OutOfMemory = text_member (codes "verdict") (codes "out of memory") ∷ []
 
 -- the whole line of a file

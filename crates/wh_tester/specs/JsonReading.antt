@@ -4,7 +4,7 @@ use Rattle.json.specs.Json.{Json, Members, number, string, object, boolean, no_m
 use Rattle.wh_workflow.specs.declared.fault.Mismatch.TheVariants.{Different, CommandMissing, CommandExtra}
 use Rattle.wh_replay.specs.declared.fault.Fault.{Fault}
 use Rattle.wh_replay.specs.declared.fault.Fault.TheVariants as faults
-use Rattle.wh_tester.specs.Faults.{replay_fault_text}
+use Rattle.wh_tester.specs.Faults.{replay_fault_text, unregistered}
 use Rattle.wh_tester.specs.Report.{shown, event_of, fault_text, good_count}
 use Rattle.wh_tester.specs.Json.{json_line, json_totals}
 use Rattle.wh_tester.specs.declared.line.Verdict.{Verdict}
@@ -25,6 +25,12 @@ subject_json (faults.Mismatch at (Different event)) others = member (codes "even
 subject_json (faults.Mismatch at (CommandMissing event)) others = member (codes "event") (number (decimal event)) others
 subject_json (faults.Mismatch at (CommandExtra index)) others = member (codes "task") (number (decimal at)) others
 
+-- the members of the verdict that replay has a fault
+abbrev pub fault_json : Fault → Members
+fault_json fault =
+    member (codes "verdict") (string (codes "fault"))
+    (subject_json fault (member (codes "fault") (string (replay_fault_text fault)) no_members))
+
 -- the members of a verdict
 abbrev pub verdict_json : Verdict → Members
 verdict_json (verdicts.Good c) =
@@ -33,9 +39,8 @@ verdict_json (verdicts.Good c) =
 verdict_json (verdicts.Unreadable fault) =
     member (codes "verdict") (string (codes "unreadable"))
     (event_json (event_of fault) (member (codes "fault") (string (fault_text fault)) no_members))
-verdict_json (verdicts.Faulty fault) =
-    member (codes "verdict") (string (codes "fault"))
-    (subject_json fault (member (codes "fault") (string (replay_fault_text fault)) no_members))
+verdict_json (verdicts.NoCode kind) = fault_json unregistered
+verdict_json (verdicts.Faulty fault) = fault_json fault
 verdict_json verdicts.OutOfMemory = member (codes "verdict") (string (codes "out of memory")) no_members
 
 -- the object of a file
@@ -66,6 +71,7 @@ HasSmallSubject (faults.Mismatch at (CommandExtra index)) = IsSmall at
 abbrev pub HasSmallNumbers : Verdict → Type 0
 HasSmallNumbers (verdicts.Good c) = IsSmall c.tasks
 HasSmallNumbers (verdicts.Unreadable fault) = IfSome (event_of fault) IsSmall
+HasSmallNumbers (verdicts.NoCode kind) = Unit {0}
 HasSmallNumbers (verdicts.Faulty fault) = HasSmallSubject fault
 HasSmallNumbers verdicts.OutOfMemory = Unit {0}
 

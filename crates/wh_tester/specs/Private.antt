@@ -1,2 +1,3 @@
 -- Definitions that only contracts of private functions and invariants over private fields cite.
 pub mod Report
+pub mod Verdicts

@@ -4,9 +4,9 @@ ghost use Rattle.std.specs.Prelude.{◌≡◌, ◌∷◌, ◌++◌, [], Some, On
 ghost use Rattle.std.specs.Fmt.{DisplaysOnOk};
 ghost use Rattle.std.specs.Io.KnownBytes.{Appends};
 ghost use Rattle.wh_tester.specs.Report.{shown, fault_text};
-ghost use Rattle.wh_tester.specs.Json.{escaped_char, escaped, following, event_members, subject_members, verdict_members, json_line, open_line, totals_object};
+ghost use Rattle.wh_tester.specs.Json.{escaped_char, escaped, following, event_members, subject_members, fault_members, verdict_members, json_line, open_line, totals_object};
 
-use crate::faults::ReplayFaultText;
+use crate::faults::{ReplayFaultText, UNREGISTERED};
 use crate::report::{EventText, event_of, name_of, shown_char, words_of};
 use crate::{Line, Verdict};
 use std::io::Write;
@@ -104,6 +104,15 @@ impl fmt::Display for SubjectMember {
     }
 }
 
+/// Writes the members of a fault of replay, after another one.
+fn write_fault<W: fmt::Write>(fault: &Fault, f: &mut fmt::Formatter<W>) -> fmt::Result
+    ensures { DisplaysOnOk W.write_str_gives f.old result (Some (following (fault_members fault.now))) f.new }
+{
+    let subject = SubjectMember(*fault);
+    let fault = ReplayFaultText(*fault);
+    write!(f, ",\"verdict\":\"fault\"{subject},\"fault\":\"{fault}\"")
+}
+
 /// The members of a verdict, after another one.
 #[derive(Drop)]
 struct VerdictMembers<'a>(&'a Verdict);
@@ -113,9 +122,9 @@ impl fmt::Display for VerdictMembers<'_> {
 
     fn fmt<W: fmt::Write>(&self, f: &mut fmt::Formatter<W>) -> fmt::Result {
         match self.0 {
-            Verdict::Good(checked) => {
-                let tasks = checked.tasks;
-                let live = checked.live;
+            Verdict::Good(replayed_tasks) => {
+                let tasks = replayed_tasks.tasks;
+                let live = replayed_tasks.live;
                 write!(f, ",\"verdict\":\"ok\",\"tasks\":{tasks},\"live\":{live}")
             }
             Verdict::Unreadable(fault) => {
@@ -126,11 +135,8 @@ impl fmt::Display for VerdictMembers<'_> {
                     ",\"verdict\":\"unreadable\"{event},\"fault\":\"{fault}\""
                 )
             }
-            Verdict::Faulty(fault) => {
-                let subject = SubjectMember(*fault);
-                let fault = ReplayFaultText(*fault);
-                write!(f, ",\"verdict\":\"fault\"{subject},\"fault\":\"{fault}\"")
-            }
+            Verdict::NoCode { kind: _ } => write_fault(&UNREGISTERED, f),
+            Verdict::Faulty(fault) => write_fault(fault, f),
             Verdict::OutOfMemory => write!(f, ",\"verdict\":\"out of memory\""),
         }
     }

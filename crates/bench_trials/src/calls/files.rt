@@ -7,7 +7,7 @@ use std::thread::Threads;
 use test_support::json;
 use wh_console::{InputFault, NO_OPTIONS};
 use wh_json::read_events;
-use wh_report::{Record, check_all};
+use wh_report::{Record, replay_inputs};
 use wh_sample_workflows::Nap;
 
 /// Reads a history.
@@ -48,14 +48,14 @@ pub(crate) fn check<R: Print + Threads + Sync>(rt: &R, alloc: Global, name: &str
     let live = push_file(alloc, &mut files, "live", "nap/8");
     let files = nap.and(live).and(Some(files))?;
     say_nothing(rt, name, "before");
-    let checked = check_all::<Nap, _, _, _>(
+    let replayed_tasks = replay_inputs::<Nap, _, _, _>(
         rt,
         alloc,
         files,
         NO_OPTIONS,
         |file: (String, Vec<u8>)| -> Result<(String, Vec<u8>), InputFault> { Ok(file) },
     );
-    match checked {
+    match replayed_tasks {
         Ok(records) => say_lines(rt, name, records),
         Err(fault) => say_answer(rt, name, Err::<(), InputFault>(fault)),
     }

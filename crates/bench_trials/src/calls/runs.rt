@@ -6,11 +6,11 @@ use crate::calls::saying::{run_of, run_over, say, say_answer, say_nothing, say_r
 use std::alloc::Global;
 use std::io::Print;
 use test_support::{events, events_after, key};
-use wh_cache::{Put, Sticky};
 use wh_events::{Event, RunKey};
+use wh_host::{Put, Sticky};
 use wh_poll::{StepFault, Stepped, replay_task};
 use wh_recorded::ScriptSource;
-use wh_replay::{AdvanceFault, Run, RunFault, check};
+use wh_replay::{AdvanceFault, Run, RunFault, replay_history};
 use wh_sample_workflows::Nap;
 use wh_workflow::{Command, Job, Meter, Workflow, no_payloads, text_of};
 
@@ -43,7 +43,7 @@ pub(crate) fn from_first<R: Print>(rt: &R, alloc: Global, name: &str) -> Option<
 pub(crate) fn check_history<R: Print>(rt: &R, alloc: Global, name: &str) -> Option<()> {
     let events = events(alloc, "nap").ok()?;
     say_nothing(rt, name, "before");
-    say_answer(rt, name, check::<Nap>(alloc, events));
+    say_answer(rt, name, replay_history::<Nap>(alloc, events));
     say_nothing(rt, name, "after");
     Some(())
 }

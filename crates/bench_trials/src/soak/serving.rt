@@ -1,7 +1,7 @@
 //! A soak: workers with a thread each serve tasks while another thread evicts runs at random.
 ghost use Rattle.std.specs.Prelude.{◌≡◌, IfOk, replicate, vec_len};
 ghost use denote.Param.Send.{IsSend};
-ghost use Rattle.wh_ledger.specs.Shares.{no_shares};
+ghost use Rattle.wh_host.specs.Shares.{no_shares};
 
 use crate::soak::hits::HitCount;
 use rand_core::utils::NextWord;
@@ -16,8 +16,7 @@ use std::thread::Threads;
 use std::time::{Clock, Duration, Instant};
 use std::{io, thread};
 use wh_events::{OutOfMemory, RunKey};
-use wh_host::{Config, Evict, Host, Totals};
-use wh_ledger::Seat;
+use wh_host::{Config, Evict, Host, Seat, Totals};
 use wh_poll::{NoActivities, WorkerEnd, WorkerSetup, run_on_host};
 use wh_recorded::ScriptSource;
 use wh_slots::{ReserveFault, SlotKind};

@@ -1,13 +1,8 @@
 -- The part of Explaining that only contracts of private functions cite.
-use Rattle.std.specs.Prelude.{◌≡◌, ◌≢◌, false, List}
-use Rattle.wh_events.specs.declared.event.Event.{Event}
+use Rattle.std.specs.Prelude.{◌≡◌, false}
 use Rattle.wh_workflow.specs.Law.{Program}
 use Rattle.wh_workflow.specs.Scripts.{Settled}
 use Rattle.wh_workflow.specs.ActivationScripts.{settled_after, state_after}
-use Rattle.wh_replay.specs.Checks.{checked}
-use Rattle.wh_tester.specs.declared.line.Verdict.{Verdict}
-use Rattle.wh_tester.specs.declared.line.Verdict.TheVariants.{OutOfMemory}
-use Rattle.wh_tester.specs.Verdicts.{judged}
 use Rattle.wh_explained_tasks.specs.declared.ExplainedTask.{ExplainedTask}
 use Rattle.wh_explain.specs.Explaining.{stops}
 
@@ -17,7 +12,3 @@ module _ {S : Type 0} where
   LeavesTask program state settled task left versions =
       stops task.ending ≡ false → (left ≡ state_after program state task.steps)
       × (versions ≡ settled_after settled task.steps)
-
-  -- the verdict on a history is the result of its check, unless memory ran out
-  abbrev pub IsJudged : Program S → List Event → Verdict → Type 0
-  IsJudged program events verdict = verdict ≢ OutOfMemory → verdict ≡ judged (checked program events)

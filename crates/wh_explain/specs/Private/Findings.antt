@@ -5,9 +5,9 @@ use Rattle.wh_events.specs.Cuts.{cuts}
 use Rattle.wh_json.specs.Events.{history}
 use Rattle.wh_workflow.specs.Activations.{and_then}
 use Rattle.wh_workflow.specs.Law.{Program}
-use Rattle.wh_replay.specs.declared.fault.Checked.{Checked}
+use Rattle.wh_replay.specs.declared.fault.ReplayedTasks.{ReplayedTasks}
 use Rattle.wh_replay.specs.declared.fault.Fault.{Fault}
-use Rattle.wh_replay.specs.Checks.{checked, ends_live}
+use Rattle.wh_replay.specs.Outcomes.{replayed_tasks, ends_live}
 use Rattle.wh_replay.specs.Replays.{replay_after, replay_known, start, workflow_of}
 use Rattle.wh_tester.specs.declared.line.Verdict.{Verdict}
 use Rattle.wh_tester.specs.Verdicts.{judged, verdict_on}
@@ -16,25 +16,23 @@ use Rattle.wh_explained_tasks.specs.declared.ExplainedTask.{ExplainedTask}
 use Rattle.wh_explain.specs.declared.explanation.Explanation.{Explanation}
 use Rattle.wh_explain.specs.Differences.{last_difference}
 use Rattle.wh_explain.specs.Explaining.{AreTasksIn, AreTasksOf, AreTasksPlaced}
-use Rattle.wh_tester.specs.UnknownTypes.{unknown_in, unknown_of, unknown_placed}
+use Rattle.wh_tester.specs.UnknownTypes.{unknown_of, unknown_placed}
 use Rattle.wh_explain.specs.Private.Stepping.{Keeps}
 
--- the explanation has these tasks, kept as `detail` says, this workflow type, this verdict, and the difference that the
--- tasks end in
-pub record IsFound (detail : DetailLevel) (AreThose : List ExplainedTask → Type 0) (unknown : Option (List ℕ))
-    (verdict : Verdict) (own : Explanation) : Type 0 where
+-- the explanation has these tasks, kept as `detail` says, this verdict, and the difference that the tasks end in
+pub record IsFound (detail : DetailLevel) (AreThose : List ExplainedTask → Type 0) (verdict : Verdict)
+    (own : Explanation) : Type 0 where
   pub tasks : List ExplainedTask
   pub explained : AreThose tasks
   pub keeps : Keeps detail own.tasks tasks
-  pub unknown_is : own.unknown ≡ unknown
   pub verdict_is : own.verdict ≡ verdict
   pub differs_in : own.difference ≡ last_difference tasks
 
 module _ {S : Type 0} where
-  -- the result of checking events in place
-  abbrev pub checked_placed : Program S → Result (List Event) Fault → Result Checked Fault
-  checked_placed program (Err fault) = Err fault
-  checked_placed program (Ok events) =
+  -- what replay finds of events in place
+  abbrev pub replayed_placed : Program S → Result (List Event) Fault → Result ReplayedTasks Fault
+  replayed_placed program (Err fault) = Err fault
+  replayed_placed program (Ok events) =
       and_then
       (replay_known (program.knows (workflow_of events))
       (replay_after program [] [] events (start program (workflow_of events) 0)))
@@ -43,16 +41,15 @@ module _ {S : Type 0} where
   -- the explanation of events in place
   abbrev pub IsFoundPlaced : DetailLevel → Program S → Result (List Event) Fault → Explanation → Type 0
   IsFoundPlaced detail program placed =
-      IsFound detail (AreTasksPlaced placed program) (unknown_placed program placed)
-      (judged (checked_placed program placed))
+      IsFound detail (AreTasksPlaced placed program)
+      (judged (unknown_placed program placed) (replayed_placed program placed))
 
   -- the explanation of a history
   abbrev pub IsFoundOf : DetailLevel → Program S → List Event → Explanation → Type 0
   IsFoundOf detail program events =
-      IsFound detail (AreTasksOf program events) (unknown_of program events) (judged (checked program events))
+      IsFound detail (AreTasksOf program events) (judged (unknown_of program events) (replayed_tasks program events))
 
   -- the explanation of a file
   abbrev pub IsFoundIn : DetailLevel → Program S → List ℕ → Explanation → Type 0
   IsFoundIn detail program bytes =
-      IsFound detail (AreTasksIn program (history bytes)) (unknown_in program (history bytes))
-      (verdict_on program bytes)
+      IsFound detail (AreTasksIn program (history bytes)) (verdict_on program bytes)

@@ -41,12 +41,6 @@ module _ {S : Type 0} where
       × Shows {A = A} (Err (Workflow fault)) program context progress job shown
   AddsStep (Err OutOfMemory) program context progress job before after = Unit {0}
 
-  -- some step is added to those before it
-  abbrev pub AddsOneStep : {A : Type 0} → Result A ScriptFault → Program S → ActivationContext → Progress S → Job
-      → List Step → Type 0
-  AddsOneStep result program context progress job before =
-      (after : List Step) × AddsStep result program context progress job before after
-
   -- the steps have this fault, if they have one; else they leave this state, these versions and these issued commands
   pub record Leaves (program : Program S) (context : ActivationContext) (state : S) (settled : Settled)
       (steps : List Step) (fault : Option WorkflowFault) (left : S) (versions : Settled)

@@ -11,13 +11,13 @@ use Rattle.wh_workflow.specs.Law.{Program}
 use Rattle.wh_workflow.specs.Names.{mismatch}
 use Rattle.wh_workflow.specs.Scripts.{ActivationContext, Settled, reduced}
 use Rattle.wh_workflow.specs.ActivationScripts.{Step, fault_in, issued_in}
-use Rattle.wh_replay.specs.declared.fault.Checked.{Checked}
+use Rattle.wh_replay.specs.declared.fault.ReplayedTasks.{ReplayedTasks}
 use Rattle.wh_replay.specs.declared.fault.Fault.{Fault}
 use Rattle.wh_replay.specs.declared.fault.Fault.TheVariants.{Workflow as WorkflowFaulty, Mismatch as Mismatched}
 use Rattle.wh_replay.specs.declared.fault.RunFault.{RunFault}
 use Rattle.wh_replay.specs.declared.fault.RunFault.TheVariants.{Fault as Faulty, OutOfMemory}
 use Rattle.wh_replay.specs.declared.state.ReplayState.{ReplayState}
-use Rattle.wh_replay.specs.Checks.{ends_live, replay_result}
+use Rattle.wh_replay.specs.Outcomes.{ends_live, replay_result}
 use Rattle.wh_replay.specs.Replays.{replay_after}
 use Rattle.wh_explain.specs.declared.explanation.DetailLevel.{DetailLevel}
 use Rattle.wh_explain.specs.declared.explanation.DetailLevel.TheVariants.{Verdict, Steps}
@@ -103,7 +103,7 @@ module _ {S : Type 0} where
 
   -- what replay finds in the tasks of a history, from a state and settled versions on: how many there are and whether
   -- the last is live, or the fault of one
-  abbrev pub walked : Program S → List Event → S → Settled → Result Checked Fault
+  abbrev pub walked : Program S → List Event → S → Settled → Result ReplayedTasks Fault
   walked program events state settled =
       and_then (replay_after program [] [] events (replay_result state settled [] 0))
       (λ _. Ok (record { tasks = length (cuts events); live = ends_live events }))

@@ -35,7 +35,7 @@ returns-in_err-own-clause-stopped g c =
     let far = sym (map-id at.yielded) ∙ YieldsList-so_far road at.yielded at.input-iterator at.yielded_by in
     let turn = YieldsList-turn road at.yielded at.input-iterator at.yielded_by c.next.result c.next.new.self input c.in-Some.is c.next.ensures.steps in
     failed_as (HasBrokenOff visits gives inputs c.args.console.now c.visit.new.console) c.from_residual.result c.in_err-own.field-0.0 c.from_residual.ensures.1
-    (stopped_at visits gives inputs at.yielded (input ∷ drop (length at.yielded + 1) inputs) at.all.items c.args.console.now at.console c.visit.new.console c.in_err-own.field-0.0
+    (stopped_at visits gives inputs at.yielded input (drop (length at.yielded + 1) inputs) at.all.items c.args.console.now at.console c.visit.new.console c.in_err-own.field-0.0
     (inputs_parted inputs at.yielded input far turn.0 turn.1) at.invariant c.in_err-own.ensures.refused c.in_err-own.ensures.why)
 
 -- there was no memory for what is kept of it

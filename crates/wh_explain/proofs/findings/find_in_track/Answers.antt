@@ -19,4 +19,4 @@ returns-in-Ok-Some g c =
     let track = c.args.track.now in
     let kind = workflow_of track in
     let named = unknown_by (program.knows kind) kind c.in-Ok-Some.kind (sym c.in-Ok-Some.field-0-is ∙ c.in-Ok-Some.ensures) in
-    subst (IsFoundPlaced c.args.detail program (Ok track)) (sym c.no_code.ensures) (no_code_found program c.args.detail track c.in-Ok-Some.kind named.0 named.1)
+    subst (IsFoundPlaced c.args.detail program (Ok track)) (sym c.of_verdict.ensures) (no_code_found program c.args.detail track c.in-Ok-Some.kind named.0 named.1)

@@ -17,8 +17,8 @@ returns-in-Ok g c =
     let began = c.in_ok-first.ensures 0 in
     let shown : c.workflow_of-kind.result.now ≡ workflow_of track = c.workflow_of-kind.ensures ∙ ap workflow_of c.events.ensures.events in
     ok_along _ c.explanation_of.result _ c.explanation_of.ensures
-    (walk_found program c.args.detail track c.in_ok-first.first.state c.in_ok-first.first.versions c.walk_tasks.new.tasks.items (Ok c.in-Ok.checked) c.requires (ap (λ (u : ReplayResult _). u.state) began ∙ ap program.initial shown) (ap (λ (u : ReplayResult _). u.settled) began)
-    c.in-Ok.ensures.tasks c.in-Ok.ensures.checked)
+    (walk_found program c.args.detail track c.in_ok-first.first.state c.in_ok-first.first.versions c.walk_tasks.new.tasks.items (Ok c.in-Ok.replayed_tasks) c.requires (ap (λ (u : ReplayResult _). u.state) began ∙ ap program.initial shown) (ap (λ (u : ReplayResult _). u.settled) began)
+    c.in-Ok.ensures.tasks c.in-Ok.ensures.replayed_tasks)
 
 pub returns-in-Err-Fault : goal.returns-in-Err-Fault
 returns-in-Err-Fault g c =
@@ -28,4 +28,4 @@ returns-in-Err-Fault g c =
     let shown : c.workflow_of-kind.result.now ≡ workflow_of track = c.workflow_of-kind.ensures ∙ ap workflow_of c.events.ensures.events in
     ok_along _ c.explanation_of-in-Err-Fault.result _ c.explanation_of-in-Err-Fault.ensures
     (walk_found program c.args.detail track c.in_ok-first.first.state c.in_ok-first.first.versions c.walk_tasks.new.tasks.items (Err c.in-Err-Fault.fault) c.requires (ap (λ (u : ReplayResult _). u.state) began ∙ ap program.initial shown) (ap (λ (u : ReplayResult _). u.settled) began)
-    (rw c.in-Err-Fault.field-0-is at c.in-Err-Fault.ensures.tasks) (rw c.in-Err-Fault.field-0-is at c.in-Err-Fault.ensures.checked))
+    (rw c.in-Err-Fault.field-0-is at c.in-Err-Fault.ensures.tasks) (rw c.in-Err-Fault.field-0-is at c.in-Err-Fault.ensures.replayed_tasks))

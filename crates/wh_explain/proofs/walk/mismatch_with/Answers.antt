@@ -10,7 +10,7 @@ pub returns-in-Some : goal.returns-in-Some
 returns-in-Some c =
     let cut = c.args.cut.now in
     let told : Option Span → Option (List Event) = option_map (λ span. commanded (span_events cut.track.now span)) in
-    c.first_mismatch.ensures ∙ sym (ap (λ o. mismatch_with cut.track.now c.args.sent.now (told o)) c.in-Some.is)
+    c.difference.ensures ∙ sym (ap (λ o. mismatch_with cut.track.now c.args.sent.now (told o)) c.in-Some.is)
 
 pub returns-in-None : goal.returns-in-None
 returns-in-None c =

@@ -4,7 +4,7 @@ use Rattle.wh_events.specs.Cuts.{cuts, commanded, record_of}
 use Rattle.wh_split.specs.Splits.{first_of}
 use Rattle.wh_workflow.specs.Scripts.{ActivationContext}
 use Rattle.wh_replay.specs.Views.{span_events}
-use Rattle.wh_replay.specs.Checks.{replay_result}
+use Rattle.wh_replay.specs.Outcomes.{replay_result}
 use Rattle.wh_replay.proofs.Stepping.{IsNext, next_is, no_cuts, no_lives, lives_span}
 use Rattle.wh_explain.proofs.Ends.{keeps_tasks, task_stops}
 use Rattle.wh_explain.proofs.Tasks.{task_here}
@@ -22,8 +22,8 @@ loop-cut-init g c = record {
 }
 
 -- a task that has a fault is the last
-pub returns-in_err-left-clause-checked : goal.returns-in_err-left-clause-checked
-returns-in_err-left-clause-checked g c =
+pub returns-in_err-left-clause-replayed_tasks : goal.returns-in_err-left-clause-replayed_tasks
+returns-in_err-left-clause-replayed_tasks g c =
     let program = g.W.Workflow.program in
     let lawful = g.met.W.Workflow.lawful in
     let track = c.args.track.now in
@@ -82,8 +82,8 @@ loop-cut-preserved g c =
           (reaches program lawful track c.args.left.state c.args.left.versions at.last number at.left.state left.state at.left.versions left.versions t.task at.invariant.replay n here fault leaves.0 leaves.1);
     }
 
-pub returns-clause-checked : goal.returns-clause-checked
-returns-clause-checked g c =
+pub returns-clause-replayed_tasks : goal.returns-clause-replayed_tasks
+returns-clause-replayed_tasks g c =
     let track = c.args.track.now in
     let at = c.loop-cut in
     let none = c.in_default.ensures.none in

@@ -1,6 +1,6 @@
 use Rattle.std.proofs.Common.{◌≡◌, ◌+◌, ◌-◌, ◌≤◌, ◌||◌, length, drop}
 use Rattle.wh_events.specs.Cuts.{cuts}
-use Rattle.wh_replay.specs.Checks.{ends_live}
+use Rattle.wh_replay.specs.Outcomes.{ends_live}
 use Rattle.wh_explain.proofs.Walked.{AreDone, HasReached}
 use Rattle.wh_explain.proofs.walk.walk_tasks.Given as goal
 

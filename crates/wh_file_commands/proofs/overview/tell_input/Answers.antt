@@ -6,7 +6,7 @@ use Rattle.wh_file_commands.proofs.overview.tell_input.Goals as goal
 pub returns-in-Ok-clause-told : goal.returns-in-Ok-clause-told
 returns-in-Ok-clause-told g c =
     file_told g.R.InputReader.gives c.args.input (c.args.input.name, c.in-Ok.bytes) c.args.format c.args.console.now c.tell_file.new.console c.tell_file.result
-    (record { named = refl; bytes = c.in-Ok.ensures }) c.tell_file.ensures.told
+    (record { named = refl; bytes = c.in-Ok.ensures.bytes }) c.tell_file.ensures.told
 
 -- or that of what can't be read
 pub returns-in-Err-Unreadable-clause-told : goal.returns-in-Err-Unreadable-clause-told

@@ -13,7 +13,7 @@ returns-clause-queried g c =
     query_ended g.W.Workflow.program g.W.Queryable.queries c.args.types.now c.args.file c.args.query.now c.args.format
     c.args.console.now c.print_query.new.console c.flush_answer-2.new.console c.report.new.self c.report-2.new.self own.queried (Ok c.status_of.result) c.status_of.result c.in-Ok-flush_answer.status
     own.ensures.queried own.ensures.printed c.in-Ok-flush_answer.ensures.quiet c.in-Ok-flush_answer.ensures.kept
-    c.report.ensures (subst (λ lacking. Reported c.report.new.self c.report-2.new.self (known_types_text c.args.types.now lacking)) c.lacks_code-lacking.ensures.lacks c.report-2.ensures) c.status_of.ensures refl c.in-Ok-flush_answer.ensures.status
+    c.report.ensures (subst (λ lacking. Reported c.report.new.self c.report-2.new.self (known_types_text c.args.types.now lacking)) c.is_no_code-lacking.ensures c.report-2.ensures) c.status_of.ensures refl c.in-Ok-flush_answer.ensures.status
 
 -- or there is nothing to write, or it can't be written
 pub returns-in-Err-clause-refused : goal.returns-in-Err-clause-refused

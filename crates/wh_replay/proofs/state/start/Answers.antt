@@ -1,5 +1,5 @@
 use Rattle.std.proofs.Common.{◌∙◌, [], ap}
-use Rattle.wh_replay.specs.Checks.{replay_result}
+use Rattle.wh_replay.specs.Outcomes.{replay_result}
 use Rattle.wh_replay.proofs.state.start.Goals as goal
 
 pub returns : goal.returns

@@ -8,8 +8,9 @@ use Rattle.wh_service.proofs.parallel.all_made.Goals as goal
 pub returns-in_ok-split_faults-in-Ok-told-clause-made : goal.returns-in_ok-split_faults-in-Ok-told-clause-made
 returns-in_ok-split_faults-in-Ok-told-clause-made g c =
     let h = c.in-Ok.ensures in
-    let chain = rw (c.map.ensures.base, c.map.ensures.f, c.with_min_len.ensures.base) at h.1 in
-    let zipped = subst (λ files. AllZip (λ file given. g.F.Fn.post c.args.make (file, tt) given) files h.0) (chain.1 ∙ c.into_par_iter.ensures) chain.2 in
+    let chain = rw (c.map.ensures.base, c.map.ensures.f) at h.1 in
+    let from = rw c.with_min_len.ensures.base at chain.1 in
+    let zipped = subst (λ files. AllZip (λ file given. g.F.Fn.post c.args.make (file, tt) given) files h.0) (from ∙ c.into_par_iter.ensures) chain.2 in
     let parts = c.in_ok-split_faults-in-Ok-told in
     collected (λ file given. g.F.Fn.post c.args.make (file, tt) given) c.args.files.items h.0 c.in-Ok.told c.in-Ok-told.told parts.field-0.0.items parts.field-0.1.items zipped h.2 c.in-Ok-told.is parts.ensures.made parts.ensures.faults
 
@@ -17,6 +18,7 @@ returns-in_ok-split_faults-in-Ok-told-clause-made g c =
 pub returns-in-Err-clause-fault : goal.returns-in-Err-clause-fault
 returns-in-Err-clause-fault g c =
     let h = c.in-Ok.ensures in
-    let chain = rw (c.map.ensures.base, c.map.ensures.f, c.with_min_len.ensures.base) at h.1 in
-    let zipped = subst (λ files. AllZip (λ file given. g.F.Fn.post c.args.make (file, tt) given) files h.0) (chain.1 ∙ c.into_par_iter.ensures) chain.2 in
+    let chain = rw (c.map.ensures.base, c.map.ensures.f) at h.1 in
+    let from = rw c.with_min_len.ensures.base at chain.1 in
+    let zipped = subst (λ files. AllZip (λ file given. g.F.Fn.post c.args.make (file, tt) given) files h.0) (from ∙ c.into_par_iter.ensures) chain.2 in
     one_fault (λ file given. g.F.Fn.post c.args.make (file, tt) given) c.args.files.items h.0 c.in-Err.fault zipped (rw c.in-Err.is at h.2)
