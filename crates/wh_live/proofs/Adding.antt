@@ -14,6 +14,7 @@ use Rattle.wh_client.specs.declared.notes.PollOutcome.TheVariants as outcome
 use Rattle.wh_client.specs.declared.notes.SourceNote.{SourceNote}
 use Rattle.wh_client.specs.declared.notes.SourceNote.TheVariants.{Poll, Answer as AnAnswer}
 use Rattle.wh_commands.specs.declared.names.WorkerNames.{WorkerNames}
+use Rattle.wh_events.specs.declared.key.RunKey.{RunKey}
 use Rattle.wh_notes.specs.Laws.{is_poll_with, is_task}
 use Rattle.wh_notes.specs.Notes.{is_answer}
 use Rattle.wh_notes.specs.declared.tallies.Tally.{Tally}
@@ -248,12 +249,12 @@ module _ (gives : Gives) (fails : Fails) (shows : Shows) (names : WorkerNames) w
   open_kept was is (inr same) = let one : opened is ≡ opened was = ap open_count same in omega (arith, one)
 
   pub by_fetched : {A : Type 0} (result : Result A SourceFault) (was is : Option OpenTask) (old_tally new_tally : Tally)
-      (old new : Notes) → CountsFetch gives fails shows names result was old_tally new_tally old new → KeepsLater was is
+      (old new : Notes) (run : RunKey) → CountsFetch gives fails shows names run result was old_tally new_tally old new → KeepsLater was is
       → (IsErr result → is ≡ None) → AddsPolls was is old new
-  by_fetched (Ok history) was is old_tally new_tally old new counts kept closed =
+  by_fetched (Ok history) was is old_tally new_tally old new run counts kept closed =
       unnoted was is old new counts.1 (open_kept was is kept)
-  by_fetched (Err failure) was is old_tally new_tally old new counts kept closed =
-      let unread = by_unread was counts.0 counts.1.counts old new counts.1.settles in
+  by_fetched (Err failure) was is old_tally new_tally old new run counts kept closed =
+      let unread = by_unread was counts.0 counts.2.counts old new counts.2.settles in
       let none : opened is ≡ 0 = ap opened (closed refl) in
       record {
         more = unread.0.more;

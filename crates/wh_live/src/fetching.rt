@@ -1,10 +1,10 @@
 //! Fetches histories from their first event.
 
-ghost use Rattle.std.specs.Prelude.{◌≡◌, ◌++◌, ◌+◌, ◌==◌, None, Err, IfOk, IsErr, OnOk, position};
+ghost use Rattle.std.specs.Prelude.{◌≡◌, ◌++◌, ◌+◌, ◌==◌, None, Err, IfErr, IfOk, IsErr, OnOk, position};
 ghost use Rattle.wh_tasks.specs.Numbers.{last_number};
 ghost use Rattle.wh_tasks.specs.Source.{FailsOnly};
 ghost use Rattle.wh_live.specs.Deliveries.{IsFetched, continued, going_on};
-ghost use Rattle.wh_live.specs.Private.Noting.{CountsFetch, CountsUnread};
+ghost use Rattle.wh_live.specs.Private.Noting.{CountsFetch, CountsUnread, IsUnfetched};
 ghost use Rattle.wh_live.specs.Private.Opening.{later_of, KeepsLater};
 
 use crate::answering::settle_unread;
@@ -60,8 +60,9 @@ fn fetch<L: Connection>(
     run: &RunKey,
     up_to: u64,
 ) -> Result<Vec<Event>, AskFault>
-    ensures { IfOk result (λ history.
+    ensures told { IfOk result (λ history.
         IsFetched L.gives client.now.options.now.names run.now later.now up_to history.items) }
+    ensures failed { IfErr result (IsUnfetched L.gives L.fails client.now.options.now.names run.now) }
 {
     let members = client.fetch_history(run)?;
     let mut history = read_history(client.allocator(), members.as_slice())?;
@@ -122,8 +123,8 @@ pub(crate) fn whole<L: Connection>(
         (later_of current.old run.now) up_to history.items) }
     ensures current { KeepsLater current.old current.new }
     ensures closed { IsErr result → current.new ≡ None }
-    ensures counts { CountsFetch L.gives L.fails L.shows client.now.options.now.names result current.old
-        tally.old tally.new notes.old notes.new }
+    ensures counts { CountsFetch L.gives L.fails L.shows client.now.options.now.names run.now result
+        current.old tally.old tally.new notes.old notes.new }
     ensures failures { FailsOnly result tally.old.failures tally.new.failures }
 {
     match fetch(client, later_of(current, run), run, up_to) {

@@ -1,50 +1,17 @@
 -- Times in responses, in milliseconds. Points in time are texts in the form of RFC 3339, read by `jiff`, and durations
 -- are texts as proto3 JSON writes them, such as `1.500s`.
-use Rattle.std.specs.Prelude.{◌≡◌, ℕ, pos, ◌+◌, ◌*◌, ◌/◌, ◌&&◌, List, [], ◌∷◌, length, codes, Option, Some, None, int_div, nat_eq, nat_le, nat_lt, option_and_then, option_map, if◌then◌else◌}
-use Rattle.std.specs.List.{after_first, before_first}
+use Rattle.std.specs.Prelude.{◌≡◌, ℕ, pos, List, [], ◌∷◌, codes, Option, Some, None, int_div, nat_eq, option_and_then, if◌then◌else◌}
 use Rattle.serde_json.specs.Data.{Data, string}
 use Rattle.serde_json.specs.Find.{as_str}
 use Rattle.wh_commands.specs.Objects.{object_of}
-use Rattle.wh_commands.specs.Options.{◌>>=◌}
 use Rattle.wh_tasks.specs.Infos.{no_times}
 use Rattle.wh_tasks.specs.declared.activity_info.ActivityTimes.{ActivityTimes}
-use Rattle.wh_json.specs.Fields.{field, natural, number_in, time_of}
+use Rattle.wh_json.specs.Fields.{field, natural, time_of}
+use Rattle.wh_times.specs.Durations.{duration_in}
 
 -- a point in time, rounded down; one before 1970 is not told
 abbrev pub instant_of : List ℕ → Option ℕ
 instant_of text = option_and_then (λ nanoseconds. natural (int_div nanoseconds (pos 1_000_000))) (time_of text)
-
--- what stands before the unit
-abbrev pub before_unit : List ℕ → List ℕ
-before_unit text = before_first (λ byte. nat_eq byte 115) text
-
--- what stands before the point of a number
-abbrev pub whole_part : List ℕ → List ℕ
-whole_part digits = before_first (λ byte. nat_eq byte 46) digits
-
--- what stands after it
-abbrev pub fraction : List ℕ → List ℕ
-fraction digits = after_first (λ byte. nat_eq byte 46) digits
-
--- the thousandths of a fraction, rounded down; it has no digits, or 3, 6 or 9
-abbrev pub thousandths : List ℕ → Option ℕ
-thousandths digits = if nat_eq (length digits) 0 then Some 0
-    else (if nat_eq (length digits) 3 then number_in digits
-    else (if nat_eq (length digits) 6 then option_map (λ millionths. millionths / 1_000) (number_in digits)
-    else (if nat_eq (length digits) 9 then option_map (λ billionths. billionths / 1_000_000) (number_in digits)
-    else None)))
-
--- so many seconds and thousandths; a duration has at most 315,576,000,000 seconds
-abbrev pub in_milliseconds : ℕ → ℕ → Option ℕ
-in_milliseconds seconds parts =
-    if nat_le seconds 315_576_000_000 && nat_lt parts 1_000 then Some (seconds * 1_000 + parts) else None
-
--- a length of time, rounded down
-abbrev pub duration_of : List ℕ → Option ℕ
-duration_of text = do
-  seconds ← number_in (whole_part (before_unit text))
-  parts ← thousandths (fraction (before_unit text))
-  in_milliseconds seconds parts
 
 -- the text that a member is
 abbrev pub text_at : List ℕ → Data → Option (List ℕ)
@@ -56,7 +23,7 @@ instant_at name d = option_and_then instant_of (text_at name d)
 
 -- the length of time that a member is
 abbrev pub duration_at : List ℕ → Data → Option ℕ
-duration_at name d = option_and_then duration_of (text_at name d)
+duration_at name d = option_and_then duration_in (text_at name d)
 
 -- a timeout, unless it is 0, as a server writes one that is not set
 abbrev pub unless_zero : ℕ → Option ℕ
@@ -97,16 +64,16 @@ pub record TimesAreRead : Type 0 where
         scheduled = instant_of scheduled;
         attempt_scheduled = instant_of attempt_scheduled;
         started = instant_of started;
-        heartbeat_timeout = option_and_then unless_zero (duration_of heartbeat);
-        start_to_close = option_and_then unless_zero (duration_of start_to_close);
-        schedule_to_close = option_and_then unless_zero (duration_of schedule_to_close);
+        heartbeat_timeout = option_and_then unless_zero (duration_in heartbeat);
+        start_to_close = option_and_then unless_zero (duration_in start_to_close);
+        schedule_to_close = option_and_then unless_zero (duration_in schedule_to_close);
       }
   pub absent : times_in (object_of []) ≡ no_times
-  pub unset : option_and_then unless_zero (duration_of (codes "0s")) ≡ None
-  pub seconds : option_and_then unless_zero (duration_of (codes "90s")) ≡ Some 90_000
-  pub longest : duration_of (codes "315576000000s") ≡ Some 315_576_000_000_000
-  pub longer : duration_of (codes "315576000001s") ≡ None
-  pub milliseconds : duration_of (codes "1.500s") ≡ Some 1_500
-  pub microseconds : duration_of (codes "0.001999s") ≡ Some 1
-  pub nanoseconds : duration_of (codes "2.000999999s") ≡ Some 2_000
-  pub negative : duration_of (codes "-1s") ≡ None
+  pub unset : option_and_then unless_zero (duration_in (codes "0s")) ≡ None
+  pub seconds : option_and_then unless_zero (duration_in (codes "90s")) ≡ Some 90_000
+  pub longest : duration_in (codes "315576000000s") ≡ Some 315_576_000_000_000
+  pub longer : duration_in (codes "315576000001s") ≡ None
+  pub milliseconds : duration_in (codes "1.500s") ≡ Some 1_500
+  pub microseconds : duration_in (codes "0.001999s") ≡ Some 1
+  pub nanoseconds : duration_in (codes "2.000999999s") ≡ Some 2_000
+  pub negative : duration_in (codes "-1s") ≡ None

@@ -6,3 +6,4 @@ pub mod Crossing
 pub mod Lookups
 pub mod Nothing
 pub mod Setting
+mod Ending

@@ -1,5 +1,5 @@
 -- The walks through a value, beside the definitions that they follow.
-use Rattle.std.proofs.Common.{◌≡◌, ◌<◌, ◌≤◌, ℕ, zero, suc, List, [], ◌∷◌, ◌++◌, get_or, length, map, arith, Option, String, Vec, BTreeMap, Global, Less, Greater, string_bytes, string_cmp, nat_cmp, refl, sym, ap, ◌∙◌}
+use Rattle.std.proofs.Common.{◌≡◌, ◌<◌, ◌≤◌, ℕ, zero, suc, List, [], ◌∷◌, ◌++◌, get_or, length, map, arith, Option, String, Vec, BTreeMap, Global, Less, Greater, string_bytes, string_cmp, nat_cmp, refl, sym, ap, ◌∙◌, append_assoc}
 use Rattle.std.proofs.lemmas.Cmp.{nat_list_cmp_total}
 use Rattle.std.specs.Cmp.Lexicographic.{slice_cmp}
 use Rattle.std.specs.List.{AllByRecursion}
@@ -13,12 +13,39 @@ use Rattle.serde_json.specs.declared.value.Value.{Value, Array, Object}
 use Rattle.wh_json.specs.Fields.{list_of}
 use Rattle.wh_payload_metadata.specs.Payloads.{payloads_of_members, payloads_of_member}
 use Rattle.wh_payload_metadata.specs.Header.{members_by}
-use Rattle.wh_payload_metadata.specs.Seen.{noted, all_noted}
+use Rattle.wh_payload_metadata.specs.Seen.{AreNotedFirst, noted, all_noted}
 use Rattle.wh_payload_metadata.specs.Handed.{with_metadata, each_with_metadata, handed_on, items_handed_on, members_handed_on, member_handed_on}
 
 pub all_noted-append : (ps qs : List Data) (seen : Members) → all_noted (ps ++ qs) seen ≡ all_noted qs (all_noted ps seen)
 all_noted-append [] qs seen = refl
 all_noted-append (p ∷ ps) qs seen = all_noted-append ps qs (noted p seen)
+
+-- where a walk stands: the payloads that it has noted, and those that are left
+abbrev pub AreNoted : (payloads left : List Data) (old now : Members) → Type 0
+AreNoted payloads left old now = (first : List Data) × (payloads ≡ first ++ left) × (now ≡ all_noted first old)
+
+pub noted_more : (payloads next after : List Data) (old now new : Members) → AreNoted payloads (next ++ after) old now
+    → new ≡ all_noted next now → AreNoted payloads after old new
+noted_more payloads next after old now new before is = (
+  before.0 ++ next,
+  before.1 ∙ sym (append_assoc before.0 next after),
+  is ∙ ap (all_noted next) before.2 ∙ sym (all_noted-append before.0 next old),
+)
+
+-- a walk that ends where it stands
+pub noted_until : (payloads left : List Data) (old now new : Members) → AreNoted payloads left old now → new ≡ now → AreNotedFirst payloads old new
+noted_until payloads left old now new before is = record { first = before.0; rest = left; are = before.1; noted = is ∙ before.2 }
+
+-- a walk that ends within what comes next
+pub noted_after : (payloads next after : List Data) (old now new : Members) → AreNoted payloads (next ++ after) old now
+    → AreNotedFirst next now new → AreNotedFirst payloads old new
+noted_after payloads next after old now new before some = record {
+  first = before.0 ++ some.first;
+  rest = some.rest ++ after;
+  are = before.1 ∙ ap (λ ps. before.0 ++ (ps ++ after)) some.are ∙ ap (λ ps. before.0 ++ ps) (append_assoc some.first some.rest after)
+      ∙ sym (append_assoc before.0 some.first (some.rest ++ after));
+  noted = some.noted ∙ ap (all_noted some.first) before.2 ∙ sym (all_noted-append before.0 some.first old);
+}
 
 -- what follows a member that was noted
 pub member_noted : (e : Entry) (rest : List Entry) (before after : Members) → after ≡ all_noted (payloads_of_member (string_bytes e.0) (view e.1)) before

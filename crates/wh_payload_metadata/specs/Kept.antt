@@ -2,13 +2,15 @@
 use Rattle.std.specs.Prelude.{◌≡◌, ◌⊎◌, true, IsSomeAnd, ℕ, List, [], ◌∷◌, Bool, false, ◌||◌, string_bytes, bytes_eq, Option, Some, None, option_map}
 use Rattle.std.specs.declared.alloc.Global.{Global}
 use Rattle.std.specs.declared.string.String.{String}
-use Rattle.std.specs.Map.{lookup}
+use Rattle.std.specs.Map.{lookup, remove_entry}
 use Rattle.serde_json.specs.Data.{Data, Members, no_members}
 use Rattle.wh_payload_metadata.specs.declared.seen.SeenPayloads.{SeenPayloads}
 use Rattle.wh_payload_metadata.specs.Payloads.{payloads_of}
 use Rattle.wh_payload_metadata.specs.Header.{Fields, no_fields}
 use Rattle.wh_payload_metadata.specs.Seen.{all_noted, metadata_seen, fields_seen, header_seen}
 use Rattle.wh_payload_metadata.specs.Handed.{handed_on}
+use Rattle.wh_payload_metadata.specs.declared.ends.TaskEnd.{TaskEnd}
+use Rattle.wh_payload_metadata.specs.declared.ends.TaskEnd.TheVariants.{GoesOn, Answered, Closed}
 use Rattle.wh_payload_metadata.specs.declared.kept.KeptRuns.{KeptRuns}
 use Rattle.wh_payload_metadata.specs.declared.open_tasks.OpenTasks.{OpenTasks}
 
@@ -55,6 +57,13 @@ abbrev pub OthersStay : KeptRuns → KeptRuns → List ℕ → Option (Text × S
 OthersStay before after name displaced =
     (other : List ℕ) → bytes_eq name other ≡ false
     → (kept_run after other ≡ kept_run before other) ⊎ IsSomeAnd displaced (λ run. bytes_eq other (string_bytes run.0) ≡ true)
+
+-- the runs that are kept after a task of the run of this name has come to this: without the run, if it is closed; otherwise
+-- all as they were, since a task that came later may be in hand
+abbrev pub runs_after : TaskEnd → List ℕ → List (Text × SeenPayloads) → List (Text × SeenPayloads)
+runs_after GoesOn name runs = runs
+runs_after Answered name runs = runs
+runs_after Closed name runs = remove_entry (λ key. bytes_eq name (string_bytes key)) runs
 
 -- a request with what was seen of its run, if that is kept
 abbrev pub handed_by : Option SeenPayloads → Data → Data

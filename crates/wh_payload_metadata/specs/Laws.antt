@@ -1,8 +1,14 @@
 -- What holds of each request that is handed on.
-use Rattle.std.specs.Prelude.{◌≡◌, ◌≢◌, ◌<◌, ◌≤◌, ℕ, List, [], ◌∷◌, ◌++◌, map, IsSome, Option, Some, None, option_map, codes, true, if◌then◌else◌}
+use Rattle.std.specs.Prelude.{◌≡◌, ◌≢◌, ◌<◌, ◌≤◌, ℕ, List, [], ◌∷◌, ◌++◌, map, IsSome, Bool, true, false, Option, Some, None, Result, String, option_map, codes, if◌then◌else◌}
 use Rattle.std.specs.List.{AllByRecursion}
+use Rattle.std.specs.declared.alloc.Global.{Global}
 use Rattle.serde_json.specs.Data.{Data, null, boolean, number, string, array, object, Items, no_items, item, Members, no_members, member}
 use Rattle.serde_json.specs.Find.{as_object, get_member}
+use Rattle.wh_json.specs.Fields.{field}
+use Rattle.wh_rpc.specs.declared.call_fault.CallFault.{CallFault}
+use Rattle.wh_rpc.specs.declared.response.CallResult.{CallResult}
+use Rattle.wh_payload_metadata.specs.Kept.{runs_after}
+use Rattle.wh_payload_metadata.specs.Messages.{closes_run, end_after, is_taken}
 use Rattle.wh_payload_metadata.specs.Payloads.{is_payloads, data_of, metadata_of, encoding_in, have_more, payloads_of}
 use Rattle.wh_payload_metadata.specs.Header.{brought, number_in, no_fields, fields_after, value_in}
 use Rattle.wh_payload_metadata.specs.Seen.{all_noted, fields_seen, header_seen}
@@ -126,3 +132,23 @@ abbrev mutual
 -- a request that is handed on differs from what it was only in metadata beside the encoding, and in headers
 abbrev pub NothingElseChanges : Type 0
 NothingElseChanges = (seen : Members) (header : Option Data) (request : Data) → erased (handed_on seen header request) ≡ erased request
+
+-- the runs that are kept
+abbrev Runs : Type 0
+Runs = List (String Global × SeenPayloads)
+
+-- an answer whose last command does not close its run leaves what is kept of all runs
+abbrev pub OpenRunsStay : Type 0
+OpenRunsStay =
+    (method name : List ℕ) (params : Data) (response : Result (ℕ × CallResult) CallFault) (runs : Runs)
+    → closes_run params ≡ false → runs_after (end_after method (closes_run params) response) name runs ≡ runs
+
+-- so does one that the server did not take
+abbrev pub RunsStayUntilTaken : Type 0
+RunsStayUntilTaken =
+    (method name : List ℕ) (closes : Bool) (response : Result (ℕ × CallResult) CallFault) (runs : Runs)
+    → is_taken response ≡ false → runs_after (end_after method closes response) name runs ≡ runs
+
+-- an answer without commands, as one that fails its task, closes no run
+abbrev pub FailuresEndNoRun : Type 0
+FailuresEndNoRun = (params : Data) → field (codes "commands") (Some params) ≡ None → closes_run params ≡ false

@@ -1,8 +1,13 @@
 -- What calls of Temporal's WorkflowService say of runs and tasks.
-use Rattle.std.specs.Prelude.{ℕ, ◌-◌, List, [], ◌∷◌, length, slice_get, Bool, ◌&&◌, ◌||◌, not, is_some, bytes_eq, codes, Option, Some, nat_eq, option_and_then, if◌then◌else◌}
+use Rattle.std.specs.Prelude.{ℕ, ◌-◌, List, [], ◌∷◌, length, slice_get, Bool, true, false, ◌&&◌, ◌||◌, not, is_some, bytes_eq, codes, Option, Some, Result, Ok, Err, nat_eq, option_and_then, if◌then◌else◌}
 use Rattle.std.specs.List.{starts_with}
 use Rattle.serde_json.specs.Data.{Data}
 use Rattle.wh_json.specs.Fields.{field, at_path, text_of, list_in}
+use Rattle.wh_rpc.specs.declared.call_fault.CallFault.{CallFault}
+use Rattle.wh_rpc.specs.declared.response.CallResult.{CallResult}
+use Rattle.wh_rpc.specs.declared.response.CallResult.TheVariants.{Given, Refused}
+use Rattle.wh_payload_metadata.specs.declared.ends.TaskEnd.{TaskEnd}
+use Rattle.wh_payload_metadata.specs.declared.ends.TaskEnd.TheVariants.{GoesOn, Answered, Closed}
 
 -- the token of the task that the result of a poll has, or the params of a call name; empty if there is none
 abbrev pub token_of : Data → List ℕ
@@ -49,17 +54,6 @@ responds method = starts_with nat_eq method (codes "Respond")
 abbrev pub beats : List ℕ → Bool
 beats method = bytes_eq method (codes "RecordActivityTaskHeartbeat")
 
--- whether a call of this method answers an activity task
-abbrev pub responds_to_activity : List ℕ → Bool
-responds_to_activity method =
-    bytes_eq method (codes "RespondActivityTaskCompleted") || bytes_eq method (codes "RespondActivityTaskFailed")
-    || bytes_eq method (codes "RespondActivityTaskCanceled")
-
--- whether nothing more comes of what is kept for a call of this method: it answers an activity task, or fails a workflow
--- task, whose run is then replayed from its first event
-abbrev pub ends_place : List ℕ → Bool
-ends_place method = responds_to_activity method || bytes_eq method (codes "RespondWorkflowTaskFailed")
-
 -- whether a command of this type closes its run
 unfoldable pub closes : List ℕ → Bool
 closes kind =
@@ -79,3 +73,22 @@ last_command params = option_and_then last (option_and_then list_in (field (code
 -- whether the last command of a call closes its run
 abbrev pub closes_run : Data → Bool
 closes_run params = closes (text_of (field (codes "commandType") (last_command params)))
+
+-- ---- The end of a task
+
+-- whether the server took what a call says
+abbrev pub is_given : CallResult → Bool
+is_given (Given value) = true
+is_given (Refused code message) = false
+
+abbrev pub is_taken : Result (ℕ × CallResult) CallFault → Bool
+is_taken (Ok response) = is_given response.1
+is_taken (Err fault) = false
+
+-- what a task has come to by an answer that the server took, whose last command closes the run or does not
+abbrev pub end_by : (closes : Bool) → TaskEnd
+end_by closes = if closes then Closed else Answered
+
+-- what a task has come to by a call: it goes on, unless the call answers it and the server took the answer
+abbrev pub end_after : (method : List ℕ) → (closes : Bool) → Result (ℕ × CallResult) CallFault → TaskEnd
+end_after method closes response = if responds method && is_taken response then end_by closes else GoesOn

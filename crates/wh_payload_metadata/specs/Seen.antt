@@ -1,5 +1,5 @@
 -- What was seen of a run: metadata with more than an encoding, under the data of their payload, and the fields of the header.
-use Rattle.std.specs.Prelude.{ℕ, ◌==◌, ◌&&◌, Bool, is_none, List, [], ◌∷◌, Option, Some, None, if◌then◌else◌}
+use Rattle.std.specs.Prelude.{◌≡◌, ℕ, ◌==◌, ◌&&◌, Bool, is_none, List, [], ◌∷◌, ◌++◌, Option, Some, None, if◌then◌else◌}
 use Rattle.serde_json.specs.Data.{Data, Members, put}
 use Rattle.serde_json.specs.Events.{members_len}
 use Rattle.serde_json.specs.View.{members_view}
@@ -20,6 +20,13 @@ noted payload seen = noted_metadata (data_of payload) (metadata_of payload) seen
 abbrev pub all_noted : List Data → Members → Members
 all_noted [] seen = seen
 all_noted (payload ∷ rest) seen = all_noted rest (noted payload seen)
+
+-- of these payloads some were noted, from the first one on, and nothing else
+pub record AreNotedFirst (payloads : List Data) (old new : Members) : Type 0 where
+  pub first : List Data
+  pub rest : List Data
+  pub are : payloads ≡ first ++ rest
+  pub noted : new ≡ all_noted first old
 
 -- the metadata that were seen, each under the data of its payload
 abbrev pub metadata_seen : SeenPayloads → Members

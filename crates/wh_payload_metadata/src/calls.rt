@@ -1,9 +1,10 @@
 //! Calls that keep what they bring of runs.
 
+use crate::ends::{TaskEnd, end_after};
 use crate::kept::{KeptRuns, note_first};
 use crate::messages::{
-    answers_query, beats, brings_workflow_task, closes_run, ends_place, fetched_run, fetches,
-    history_in, is_query, polled_place, queries_in, responds, responds_to_activity, token_of,
+    answers_query, beats, brings_workflow_task, closes_run, fetched_run, fetches, history_in,
+    is_query, polled_place, queries_in, responds, token_of,
 };
 use crate::open_tasks::OpenTasks;
 use serde_json::Value;
@@ -97,20 +98,11 @@ impl<'a, C: Caller> KeepingCalls<'a, C> {
         self.runs.lock(rt).hand_on(run, params)
     }
 
-    /// Forgets what is kept at a place.
-    fn forget<Q: Wait>(&self, rt: &Q, kept: &Mutex<KeptRuns>, place: &str) {
+    /// Forgets what is kept under this name until an answer.
+    fn forget<Q: Wait>(&self, rt: &Q, name: &str) {
         if self.has_kept() {
-            let seen = kept.lock(rt).forget(place);
+            let seen = self.until_answered.lock(rt).forget(name);
             drop(seen);
-        }
-    }
-
-    /// Forgets what is kept for a task whose answer goes out, if nothing more comes of it.
-    fn end_place<Q: Wait>(&self, rt: &Q, method: &str, place: &str) {
-        if responds_to_activity(method) {
-            self.forget(rt, &self.until_answered, place);
-        } else if ends_place(method) {
-            self.forget(rt, &self.runs, place);
         }
     }
 
@@ -238,11 +230,19 @@ impl<'a, C: Caller> KeepingCalls<'a, C> {
         }
     }
 
-    /// Forgets a task, and what is kept under its token.
-    fn end<Q: Wait>(&self, rt: &Q, token: &str) {
+    /// Forgets what a call has ended: the task and what is kept under its token, if the server took
+    /// its answer, and its run, if that is closed.
+    fn end<Q: Wait>(&self, rt: &Q, token: &str, run: &str, end: TaskEnd) {
+        if end == TaskEnd::GoesOn {
+            return;
+        }
         let place = self.tasks.lock(rt).end(token);
         drop(place);
-        self.forget(rt, &self.until_answered, token);
+        self.forget(rt, token);
+        if self.has_kept() {
+            let seen = self.runs.lock(rt).end_task(run, end);
+            drop(seen);
+        }
     }
 
     /// Answers a query that came alone with what is kept for it, which is then forgotten, unless
@@ -266,16 +266,15 @@ impl<'a, C: Caller> KeepingCalls<'a, C> {
         let mut queries = self.queries.lock(rt);
         let place = queries.end(token);
         if !queries.has(run) {
-            self.forget(rt, &self.until_answered, run);
+            self.forget(rt, run);
         }
         drop(queries);
         drop(place);
     }
 
-    /// Makes a call with what is kept under the token of its task and at its place. What is kept at
-    /// the place is forgotten before the call if nothing more comes of it: the next task of the run
-    /// may come before the response. The task is forgotten once the server took its answer, since
-    /// it may be answered a second time until then.
+    /// Makes a call with what is kept under the token of its task and at its place. What the call
+    /// ends is forgotten once the server took it, since a task may be answered a second time until
+    /// then.
     fn call_from<Q: Wait>(
         &self,
         rt: &Q,
@@ -286,24 +285,10 @@ impl<'a, C: Caller> KeepingCalls<'a, C> {
         let token = String::from_str(self.calls.allocator(), token_of(&params))?;
         let closes = closes_run(&params);
         let params = self.hand_on(rt, token.as_str(), place, params)?;
-        self.end_place(rt, method, place);
         let response = self.calls.call(rt, method, params);
-        let is_taken = is_acknowledged(&response);
-        if is_taken && responds(method) {
-            self.end(rt, token.as_str());
-        }
-        if is_taken && closes {
-            self.forget(rt, &self.runs, place);
-        }
+        let end = end_after(method, closes, &response);
+        self.end(rt, token.as_str(), place, end);
         response
-    }
-}
-
-/// Whether the server acknowledged a call.
-fn is_acknowledged(response: &Result<(u64, CallResult), CallFault>) -> bool {
-    match response {
-        Ok((_, CallResult::Given(_))) => true,
-        _ => false,
     }
 }
 

@@ -5,9 +5,11 @@ ghost use Rattle.std.specs.Map.{remove_entry};
 ghost use Rattle.serde_json.specs.Data.{no_members};
 ghost use Rattle.serde_json.specs.View.{view};
 ghost use Rattle.wh_payload_metadata.specs.Header.{events_in, no_fields, fields_after};
+ghost use Rattle.wh_payload_metadata.specs.declared.ends.TaskEnd.TheVariants.{Closed};
 ghost use Rattle.wh_payload_metadata.specs.Seen.{metadata_seen, fields_seen};
-ghost use Rattle.wh_payload_metadata.specs.Kept.{kept_run, kept_metadata, kept_fields, metadata_after, handed_by, OthersStay};
+ghost use Rattle.wh_payload_metadata.specs.Kept.{kept_run, kept_metadata, kept_fields, metadata_after, handed_by, runs_after, OthersStay};
 
+use crate::ends::TaskEnd;
 use crate::seen::SeenPayloads;
 use lru::LruCache;
 use serde_json::Value;
@@ -122,7 +124,20 @@ impl KeptRuns {
         }
     }
 
-    /// Forgets a run. Returns what was seen of it.
+    /// Ends a task of a run, by what it has come to. A run that is closed is forgotten. Otherwise all
+    /// stays as it is, also of a run whose task has failed, since one that came later may be in hand.
+    /// Returns what was seen of a closed run.
+    pub(crate) fn end_task(&mut self, run: &str, end: TaskEnd) -> Option<SeenPayloads>
+        ensures runs { self.new.runs.entries ≡ runs_after end run.now self.old.runs.entries }
+        ensures seen { end ≡ Closed → result ≡ kept_run self.old run.now }
+    {
+        match end {
+            TaskEnd::Closed => self.forget(run),
+            TaskEnd::GoesOn | TaskEnd::Answered => None,
+        }
+    }
+
+    /// Forgets what is kept under a name. Returns what was seen.
     pub(crate) fn forget(&mut self, name: &str) -> Option<SeenPayloads>
         ensures runs { self.new.runs.entries ≡ remove_entry (λ key. bytes_eq name.now (string_bytes key)) self.old.runs.entries }
         ensures seen { result ≡ kept_run self.old name.now }

@@ -1,8 +1,9 @@
-//! What holds of each request that is handed on, each law as the contract of a function that does
-//! nothing.
+//! What holds of each request that is handed on, and of what is kept for it, each law as the
+//! contract of a function that does nothing.
 
 ghost use Rattle.wh_payload_metadata.specs.Laws.{EachPayloadGoesOn, HeaderGoesOn, HeaderGoesOnLast, MetadataGoOn, NothingElseChanges};
 ghost use Rattle.wh_payload_metadata.specs.Laws.{LastEventSets, NothingElseSets, EachFieldGoesOn};
+ghost use Rattle.wh_payload_metadata.specs.Laws.{OpenRunsStay, RunsStayUntilTaken, FailuresEndNoRun};
 
 /// A payload that was seen, and goes out with the same data and encoding, has all the metadata that
 /// it came with, unless metadata came later with the same data.
@@ -37,4 +38,12 @@ pub fn header_goes_on()
 /// payloads, and in the headers of commands that schedule an activity or start a child.
 pub fn nothing_else_changes()
     ensures { NothingElseChanges }
+{}
+
+/// What is kept of runs stays until the server takes an answer that closes one of them: an answer
+/// that closes none, fails a task, comes late or is lost forgets nothing of a run.
+pub fn open_runs_stay()
+    ensures unclosed { OpenRunsStay }
+    ensures taken { RunsStayUntilTaken }
+    ensures failures { FailuresEndNoRun }
 {}

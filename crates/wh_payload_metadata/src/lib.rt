@@ -9,6 +9,7 @@
 #![tactic(auto)]
 
 mod calls;
+mod ends;
 mod handing;
 mod header;
 mod kept;

@@ -4,7 +4,7 @@ ghost use Rattle.std.specs.Prelude.{◌≡◌, bytes_eq, codes, map, option_and_
 ghost use Rattle.serde_json.specs.View.{view};
 ghost use Rattle.wh_payload_metadata.specs.Messages.{token_of, is_query, polls_activities, brings_workflow_task, polled_place, fetched_run, fetches};
 ghost use Rattle.wh_payload_metadata.specs.Messages.{history_in, queries_in};
-ghost use Rattle.wh_payload_metadata.specs.Messages.{responds, beats, responds_to_activity, ends_place, closes, closes_run, last};
+ghost use Rattle.wh_payload_metadata.specs.Messages.{responds, beats, closes, closes_run, last};
 ghost use Rattle.wh_json.specs.Fields.{list_in};
 
 use serde_json::Value;
@@ -99,23 +99,6 @@ pub(crate) fn beats(method: &str) -> bool
     ensures { result ≡ beats method.now }
 {
     method == "RecordActivityTaskHeartbeat"
-}
-
-/// Whether a call of this method answers an activity task.
-pub(crate) fn responds_to_activity(method: &str) -> bool
-    ensures { result ≡ responds_to_activity method.now }
-{
-    method == "RespondActivityTaskCompleted"
-        || method == "RespondActivityTaskFailed"
-        || method == "RespondActivityTaskCanceled"
-}
-
-/// Whether nothing more comes of what is kept for a call of this method: it answers an activity
-/// task, or fails a workflow task, whose run is then replayed from its first event.
-pub(crate) fn ends_place(method: &str) -> bool
-    ensures { result ≡ ends_place method.now }
-{
-    responds_to_activity(method) || method == "RespondWorkflowTaskFailed"
 }
 
 /// Whether a command of this type closes its run.

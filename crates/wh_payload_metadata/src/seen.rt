@@ -6,7 +6,7 @@ ghost use Rattle.serde_json.specs.View.{view};
 ghost use Rattle.serde_json.specs.Events.{members_len};
 ghost use Rattle.wh_payload_metadata.specs.Payloads.{payloads_of};
 ghost use Rattle.wh_payload_metadata.specs.Header.{IsEachAfterFirst, events_in, no_fields, fields_after};
-ghost use Rattle.wh_payload_metadata.specs.Seen.{all_noted, metadata_seen, fields_seen, header_seen, is_nothing};
+ghost use Rattle.wh_payload_metadata.specs.Seen.{AreNotedFirst, all_noted, metadata_seen, fields_seen, header_seen, is_nothing};
 ghost use Rattle.wh_payload_metadata.specs.Handed.{handed_on};
 
 use crate::handing::hand_on;
@@ -51,10 +51,13 @@ impl SeenPayloads {
     }
 
     /// Notes the payloads of a value that came. Of the same data the metadata that come last are
-    /// kept. `AllocError` if there was no memory: then some may have been noted.
+    /// kept. `AllocError` if there was no memory: then some of these payloads have been noted, from
+    /// the first one on, and nothing else.
     pub fn keep_payloads(&mut self, alloc: Global, value: &Value) -> Result<(), AllocError>
         ensures metadata { OnOk result (metadata_seen self.new
             ≡ all_noted (payloads_of (view value.now)) (metadata_seen self.old)) }
+        ensures some { OnErr result
+            (AreNotedFirst (payloads_of (view value.now)) (metadata_seen self.old) (metadata_seen self.new)) }
         ensures header { fields_seen self.new ≡ fields_seen self.old }
     {
         note(alloc, &mut self.metadata, value)

@@ -1,7 +1,10 @@
 -- What a source notes of its polls, and of the answers that it sends.
 use Rattle.std.specs.Prelude.{◌≡◌, ◌≢◌, ◌⊎◌, ◌↔◌, ◌<◌, ◌++◌, ◌∷◌, ◌-◌, [], ℕ, List, Bool, true, false, Option, Some, None, Result, Ok, Err}
 use Rattle.std.specs.List.{list_any}
+use Rattle.serde_json.specs.Data.{Data}
 use Rattle.wh_client.specs.Calls.{Fails, Gives}
+use Rattle.wh_client.specs.Histories.{CanNotBeRead, IsWhole}
+use Rattle.wh_client.specs.Pages.{ReadsNotOn}
 use Rattle.wh_client.specs.Polls.{GivesQuery}
 use Rattle.wh_client.specs.declared.answers.AnswerKind.{AnswerKind}
 use Rattle.wh_client.specs.declared.answers.AnswerKind.TheVariants.{WorkflowCompletion, WorkflowFailure}
@@ -15,6 +18,7 @@ use Rattle.wh_client.specs.declared.notes.SourceNote.{SourceNote}
 use Rattle.wh_client.specs.declared.notes.SourceNote.TheVariants.{Poll, Answer as AnAnswer}
 use Rattle.wh_commands.specs.CarryingOver.{continues}
 use Rattle.wh_commands.specs.declared.names.WorkerNames.{WorkerNames}
+use Rattle.wh_events.specs.declared.key.RunKey.{RunKey}
 use Rattle.wh_messages.specs.declared.request.FailedCause.TheVariants.{Unhandled}
 use Rattle.wh_messages.specs.declared.response.QueryPoll.{QueryPoll}
 use Rattle.wh_replay.specs.declared.run.Answer.{Answer}
@@ -151,13 +155,20 @@ pub record CountsUnread (gives : Gives) (fails : Fails) (shows : Shows) (names :
   pub settles : SettlesUnread gives fails shows names open_task fault counts old new
   pub tally : new_tally ≡ with_failure counts old_tally
 
--- nothing is counted or noted of a history that was fetched; otherwise what is, by the fault
-abbrev pub CountsFetch : {A : Type 0} → Gives → Fails → Shows → WorkerNames → Result A SourceFault → Option OpenTask
-    → (old_tally new_tally : Tally) → (old new : Notes) → Type 0
-CountsFetch gives fails shows names (Ok history) open_task old_tally new_tally old new =
+-- why there is no history of a run: not all of its pages could be fetched, or all could, and they can't be read
+abbrev pub IsUnfetched : Gives → Fails → WorkerNames → RunKey → AskFault → Type 0
+IsUnfetched gives fails names run fault =
+    ReadsNotOn gives fails names run [] fault
+    ⊎ ((members : List Data) × IsWhole gives names run members × CanNotBeRead members fault)
+
+-- nothing is counted or noted of a history that was fetched; otherwise what is, by why there is none
+abbrev pub CountsFetch : {A : Type 0} → Gives → Fails → Shows → WorkerNames → RunKey → Result A SourceFault
+    → Option OpenTask → (old_tally new_tally : Tally) → (old new : Notes) → Type 0
+CountsFetch gives fails shows names run (Ok history) open_task old_tally new_tally old new =
     (new_tally ≡ old_tally) × (new ≡ old)
-CountsFetch gives fails shows names (Err failure) open_task old_tally new_tally old new =
-    (fault : AskFault) × CountsUnread gives fails shows names open_task fault old_tally new_tally old new
+CountsFetch gives fails shows names run (Err failure) open_task old_tally new_tally old new =
+    (fault : AskFault) × IsUnfetched gives fails names run fault
+    × CountsUnread gives fails shows names open_task fault old_tally new_tally old new
 
 -- ---- Polls
 

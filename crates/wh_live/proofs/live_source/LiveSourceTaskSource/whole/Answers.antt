@@ -8,5 +8,5 @@ pub returns-clause-keeps : goal.returns-clause-keeps
 returns-clause-keeps g c =
     polled g.L.Connection.gives _ c.args.self.now _ c.whole.result _ c.whole.new.current c.self.view_is refl refl refl refl refl
     c.whole.ensures.failures
-    (by_fetched g.L.Connection.gives g.L.Connection.fails g.L.Connection.shows _ c.whole.result _ c.whole.new.current _ _ _ _
+    (by_fetched g.L.Connection.gives g.L.Connection.fails g.L.Connection.shows _ c.whole.result _ c.whole.new.current _ _ _ _ _
     c.whole.ensures.counts c.whole.ensures.current c.whole.ensures.closed)
