@@ -48,9 +48,9 @@ KNOWN = set(
     " text tspan strong rect circle g span path table thead tbody tr th td details summary ol ul li footer a".split()
 )
 # What stands in place of a character that can't be seen.
-UNSEEN = re.compile("[\x80-\x9f\u200e\u200f\u2028-\u202e\u2066-\u2069\u061c\ufeff]")
+UNSEEN = re.compile("[\x80-\x9f\u200e\u200f\u2028-\u202e\u2066-\u2069\u061c\ufeff\ufffe\uffff]")
 HOSTILE = (
-    "<script>alert(\"1\")</script><img src=x onerror='alert(2)'> & &lt; &#x3c; &amp; ]]> \0\x01\x1b[31m\t\n\x7f\x85\u202ekcab"
+    "<script>alert(\"1\")</script><img src=x onerror='alert(2)'> & &lt; &#x3c; &amp; ]]> \0\x01\x1b[31m\t\n\x7f\x85\u202ekcab\ufffe\uffff"
     "</title></svg></table></details></style>--><!-- \u65e5\u672c\u8a9e \U0001f642 {hole} \\ "
 )
 # What a rule of a style sheet says where it hides the text of its elements.
@@ -61,7 +61,7 @@ HIDES = re.compile(
 # How a promise is marked on the page of a table: its class and its words, by the verdict of `check --json`.
 MARKS = {"kept": ("kept", "&#10003; kept"), "broken": ("broken", "&#10007; broken"), "no promise": ("undecided", "? no promise")}
 NOT_DECIDED = ("undecided", "? not decided")
-STAMP = r"\d+-\d\d-\d\d \d\d:\d\d:\d\d(?:\.\d+)?"
+STAMP = r"\d+-\d\d-\d\dT\d\d:\d\d:\d\d(?:\.\d+)?Z"
 WIDTHS = {"wide": 1280, "narrow": 420}
 EVENTS = 51_200
 # The histories of which the head of the page is told beside the text of `explain --recorded`.
@@ -237,8 +237,11 @@ class Page(HTMLParser):
             wrong.append(f"{len(self.lanes)} lanes, {len(self.rows)} rows, {len(self.tasks)} tasks")
         if len(self.html.encode()) > 1_000_000:
             wrong.append(f"{len(self.html)} characters")
-        for stamp in re.findall(r"\d+-\d\d-\d\d \d\d:\d\d:\d\d", text):
-            datetime.datetime.strptime(stamp, "%Y-%m-%d %H:%M:%S")
+        for stamp in re.findall(STAMP, text):
+            datetime.datetime.strptime(stamp[:19], "%Y-%m-%dT%H:%M:%S")
+        # All times have one form, that of the history.
+        if re.search(r"\d\d-\d\d \d\d:\d\d|\d\d UTC", text):
+            wrong.append("a time of another form")
         for lane, row in zip(self.lanes, self.rows):
             wrong += self.judge_lane(lane, row)
         lines = [one for task in self.tasks for one in task["lines"]]
@@ -276,7 +279,7 @@ class Page(HTMLParser):
         closed = re.fullmatch(r"(\w+)(?: \(event (\d+)\) ([^,]*)(?:, after .*?)?(?:, goes on in run (.*))?)?", status)
         word, event, moment, following = closed.groups()
         given = facts["Status"].split(" by event ")
-        if given[0] != word or len(given) == 2 and not given[1].startswith(f"{event}, {moment[:19].replace('T', ' ')}"):
+        if given[0] != word or len(given) == 2 and not given[1].startswith(f"{event}, {moment[:19]}"):
             wrong.append(f"the page says {facts['Status']!r}, the text {status!r}")
         if (len(given) == 2) != bool(event) or facts.get("Goes on in run") != following:
             wrong.append(f"the page goes on in {facts.get('Goes on in run')}, the text {status!r}")
@@ -619,6 +622,14 @@ MARKED = {
     ),
 }
 
+# What markers record, beside their names, and the labels with such words in the pictures of those runs.
+KINDS = ("local activity", "version", "patch", "side effect", "mutable side effect")
+LABELS = {
+    "go-markers": [("pricing", "version"), ("ValidateOrder", "local activity")],
+    "typescript-markers": [("fix-tax", "patch"), ("price", "local activity")],
+    "odd-markers": [("rate", "mutable side effect"), ("old-tax", "patch")],
+}
+
 
 def judge_marked(page, name):
     """What is wrong with how the page of a run names its markers and updates."""
@@ -629,6 +640,9 @@ def judge_marked(page, name):
     for number, start in lines.items():
         told = texts.get(f"event-{number}", "")
         wrong += [] if start in told else [f"no {start!r} in {told!r}"]
+    # What a marker records stands beside its name in the picture, and is not cut there.
+    labels = [one for one in re.findall(r'y="15">([^<]*) <tspan class="id">([^<]*)</tspan>', page.html) if one[1] in KINDS]
+    wrong += [] if labels == LABELS[name] else [f"the picture has the labels {labels}"]
     given = re.findall(r"<summary>Task [^<]*, gives ([^<]*) <span", page.html)
     return wrong + ([] if given == heads else [f"the tasks give {given}"])
 

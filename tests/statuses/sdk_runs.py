@@ -250,13 +250,13 @@ can't be replayed here: MarkerRecorded core_patch, 1 events, first (event 5)
 can't be replayed here: MarkerRecorded core_local_activity, 1 events, first (event 7)
 can't be replayed here: WorkflowExecutionUpdateAccepted, 1 events, first (event 14)
 can't be replayed here: WorkflowExecutionUpdateCompleted, 1 events, first (event 15)
-running; waits for timer 1 (event 8) since 2024-05-01T10:00:00.000Z until 2024-05-15 10:00:00 UTC; waits for child receipt-3 receipt (event 9) since 2024-05-01T10:00:00.000Z, started (event 10) 2024-05-01T10:00:00.250Z; waits for activity 2 sendReceipt (event 16) since 2024-05-01T10:00:01.000Z; waits for a workflow task (event 18) since 2024-05-01T10:00:02.000Z, not started
+running; waits for timer 1 (event 8) since 2024-05-01T10:00:00.000Z until 2024-05-15T10:00:00Z; waits for child receipt-3 receipt (event 9) since 2024-05-01T10:00:00.000Z, started (event 10) 2024-05-01T10:00:00.250Z; waits for activity 2 sendReceipt (event 16) since 2024-05-01T10:00:01.000Z; waits for a workflow task (event 18) since 2024-05-01T10:00:02.000Z, not started
 timer: 1 times, 1 open
 child receipt: 1 times, 1 open
 activity sendReceipt: 1 times, 1 open
 """
 # Its last objects: what the run waits for, and what its things come to.
-TYPESCRIPT_WAITS = """{"waits":"timer","id":"1","opened":8,"since":"2024-05-01T10:00:00.000Z","until":"2024-05-15 10:00:00Z"}
+TYPESCRIPT_WAITS = """{"waits":"timer","id":"1","opened":8,"since":"2024-05-01T10:00:00.000Z","until":"2024-05-15T10:00:00Z"}
 {"waits":"childWorkflow","id":"receipt-3","type":"receipt","opened":9,"started":10,"since":"2024-05-01T10:00:00.000Z"}
 {"waits":"activity","id":"2","type":"sendReceipt","opened":16,"since":"2024-05-01T10:00:01.000Z"}
 {"waits":"workflowTask","opened":18,"since":"2024-05-01T10:00:02.000Z"}
@@ -502,6 +502,40 @@ POLLER_AMISS = POLLER_AMISS.replace(b"activityTaskCompletedEventAttributes", b"a
 AMISS_LINES = "*told ActivityTaskFailed 5 *told ActivityTaskCompleted 16 *\n67 more tasks, up to task 71 (event 390), *: 368 events, *"
 
 
+def turns(*kinds, fault=None):
+    """A run that runs activities of these types one after the other, each of which is completed, or fails by the fault of its
+    turn."""
+    events = [("WorkflowExecutionStarted", 0, {"workflowType": {"name": "Turns"}}), *task(0)]
+    for turn, kind in enumerate(kinds, 1):
+        opened = len(events) + 1
+        given = {"activityId": str(opened), "activityType": {"name": kind}, "workflowTaskCompletedEventId": str(opened - 1)}
+        ended = {"scheduledEventId": str(opened), "startedEventId": str(opened + 1)} | ({"failure": fault(turn)} if fault else {})
+        events += [
+            ("ActivityTaskScheduled", turn, given),
+            ("ActivityTaskStarted", turn, {"scheduledEventId": str(opened), "attempt": 1}),
+            (f"ActivityTask{'Failed' if fault else 'Completed'}", turn, ended),
+            *task(turn),
+        ]
+    return history(*events, ("WorkflowExecutionCompleted", len(kinds), {"workflowTaskCompletedEventId": str(len(events))}))
+
+
+def late(turn):
+    return {"message": f"order {turn} is late", "applicationFailureInfo": {"type": "Late"}}
+
+
+def refused(turn):
+    return {"message": "refused", "applicationFailureInfo": {"type": f"Error50{turn % 2}"}}
+
+
+# Four turns, of which the tasks 2 to 4 are told how one ended and give the next. Types that differ in digits are different types,
+# so that task 3 is not like task 2, while task 4 is; of messages digits don't count.
+TURNS = {
+    "types.json": (turns("ChargeV1", "ChargeV2", "ChargeV1", "ChargeV2"), "*gives ActivityTaskScheduled 17 ChargeV1 *\n1 more tasks, up to task 4 (event 23), *: 6 events, *"),
+    "faults.json": (turns(*["Charge"] * 4, fault=refused), "*gives ActivityTaskScheduled 17 Charge *\n1 more tasks, up to task 4 (event 23), *: 6 events, *"),
+    "messages.json": (turns(*["Charge"] * 4, fault=late), "*gives ActivityTaskScheduled 11 Charge *\n2 more tasks, up to task 4 (event 23), *: 12 events, *"),
+}
+
+
 def sdk_runs(room):
     """Each run, as text; what markers record, what an open run waits for, the tasks around an event that is not there, and what
     things come to."""
@@ -514,6 +548,7 @@ def sdk_runs(room):
         "cards.json": CARDS,
         "poller.json": POLLER,
         "amiss.json": POLLER_AMISS,
+        **{name: given for name, (given, _) in TURNS.items()},
     }
     folder = room.folder(files)
     show = ["explain", "--recorded"]
@@ -538,4 +573,5 @@ def sdk_runs(room):
         ([*show, "--all", f"{folder}/poller.json"], 0, Like("*\ntask 4: *\ntask 71: *"), ""),
         ([*show, "--json", f"{folder}/poller.json"], 0, Like('*{"place":200,*{"place":390,*'), ""),
         ([*show, f"{folder}/amiss.json"], 0, Like(AMISS_LINES), ""),
+        *[([*show, f"{folder}/{name}"], 0, Like(wanted), "") for name, (_, wanted) in TURNS.items()],
     ]

@@ -57,12 +57,16 @@ outer-skip (b ∷ bs) r e = outer-step b bs r (b == 60) (outer-skip bs r) e
 outer : (b : ℕ) → is_harmless b ≡ true → not (b == 60) ≡ true
 outer b e = (and_parts _ _ ((and_parts _ _ ((and_parts _ _ ((and_parts _ _ e).0)).0)).0)).1
 
+-- a text outside of tags is skipped, wherever it is cut
+skip : (m : ℕ) (v r : List ℕ) → tags_from false (escaped m v ++ r) ≡ tags_from false r
+skip m v r = outer-skip (escaped m v) r (all-weaker is_harmless (λ b. not (b == 60)) outer (escaped m v) (texts_are_harmless m v))
+
 -- two texts are alike outside of tags
+pub cuts : (m n : ℕ) (t u : List ℕ) → Alike false false (hole m t) (hole n u)
+cuts m n t u = record { same = λ r q e. skip m t r ∙ (e ∙ sym (skip n u q)) }
+
 pub texts : (m : ℕ) (t u : List ℕ) → Alike false false (hole m t) (hole m u)
-texts m t u =
-    let skip : (v r : List ℕ) → tags_from false (escaped m v ++ r) ≡ tags_from false r =
-    λ v r. outer-skip (escaped m v) r (all-weaker is_harmless (λ b. not (b == 60)) outer (escaped m v) (texts_are_harmless m v)) in
-    record { same = λ r q e. skip t r ∙ (e ∙ sym (skip u q)) }
+texts m t u = cuts m m t u
 
 -- one after another
 pub both : {s t u : Bool} {a b c d : Html} → Alike s t a b → Alike t u c d → Alike s u (a ⊕ c) (b ⊕ d)

@@ -6,7 +6,7 @@ use Rattle.std.specs.Prelude.{◌%◌, nat_le, nat_lt, ◌==◌, not, count_by, 
 use Rattle.std.specs.List.{list_all}
 use Rattle.std.specs.Option.{option_map}
 use Rattle.wh_html.specs.Html.{Html, plain, hole, number}
-use Rattle.wh_html.proofs.Alike.{Alike, is_inner, last, words, texts, both, none, mark, word, text, num, each-alike, each-same, decimal-inner}
+use Rattle.wh_html.proofs.Alike.{Alike, is_inner, last, words, cuts, texts, both, none, mark, word, text, num, each-alike, each-same, decimal-inner}
 use Rattle.wh_html.proofs.Inner.{time, lapse, last-time}
 use Rattle.wh_html.specs.declared.axis.Gap.{Gap}
 use Rattle.wh_html.specs.declared.axis.Stop.{Stop}
@@ -17,7 +17,6 @@ use Rattle.wh_html.specs.declared.page.Page.{Page}
 use Rattle.wh_html.specs.declared.page.RowPart.{RowPart}
 use Rattle.wh_html.specs.declared.page.RowPart.TheVariants.{Alone, First, Later}
 use Rattle.wh_html.specs.declared.page.Task.{Task}
-use Rattle.wh_html.specs.Views.{left_out, shown, is_open, tasks_before, first_shown, shown_tasks}
 use Rattle.wh_html.specs.Without.{without_lane, without_task, without_texts}
 use Rattle.wh_html.specs.Lanes.{is_hit, event_html, span_html, spans_html, thing_html, label_html, title_html, bar_html, bars_html, is_at_once, sign_html, cancel_html, classes_html, shared_label_html, said_html, count_html, times_html, counts_html, room_class, ground_html, row_html, row_part_html, part_html, lane_html}
 use Rattle.wh_html.specs.Lanes.{top_of}
@@ -48,7 +47,7 @@ thing-alike (Some type_name) name = text _ _ _ (mark _ (texts _ _ _))
 
 label-alike : (type_name : Option (List ℕ)) (name : List ℕ) → Alike false false (label_html type_name name) (label_html (option_map (λ _. []) type_name) [])
 label-alike None name = texts _ _ _
-label-alike (Some type_name) name = text _ _ _ (mark _ (text _ _ _ (last _)))
+label-alike (Some type_name) name = both (cuts _ _ type_name []) (mark _ (both (cuts _ _ name []) (last _)))
 
 title-alike : (lane : Lane) → Alike false false (title_html lane) (title_html (without_lane lane))
 unfolding title_html
@@ -170,32 +169,3 @@ picture-alike fault stops lanes rows total tasks =
     rw (length-map lanes without_lane) (both (opening-alike (length lanes) rows total) (both (each-same (stop_html bottom (first_time stops)) (stop-alike bottom (first_time stops)) stops)
     (mark _ (both (each-alike (tick_html stops) without_task (tick-alike stops) tasks) (both (each-alike (lane_html fault stops) without_lane (lane-alike fault stops) lanes)
     (both (fault-alike stops bottom fault) (last _)))))))
-
--- the same tasks are shown without their texts
-module _ {A : Type 0} where
-  -- how many of items pass
-  count-map : (p : A → Bool) (g : A → A) (xs : List A) → count_by p (map g xs) ≡ count_by (λ x. p (g x)) xs
-  count-map p g xs = fold-map (λ n x. n + cond (p x) 1 0) g 0 xs
-
-  shown-map : (g : A → A) (left : ℕ) (xs : List A) → shown left (map g xs) ≡ map g (shown left xs)
-  shown-map g left xs = rw (drop-map g left xs, take-map g 300 (drop left xs)) refl
-
-before-same : (tasks : List Task) (fault : Option Moment) (running : Bool) → tasks_before (map without_task tasks) fault running ≡ tasks_before tasks fault running
-before-same tasks (Some fault) running = count-map (λ task. nat_lt task.started.event fault.event) without_task tasks
-before-same tasks None running = ap (λ n. cond running n 0) (length-map tasks without_task)
-
-open-same : (page : Page) → is_open (without_texts page) ≡ is_open page
-unfolding without_texts
-open-same page = let blank : List ℕ → List ℕ = λ _. [] in ap (λ n. not (n == 0)) (length-map page.waits blank)
-
-pub first-same : (page : Page) → first_shown (without_texts page) ≡ first_shown page
-unfolding first_shown without_texts
-first-same page =
-    ap (λ n. left_out n (tasks_before (map without_task page.tasks) page.fault (is_open (without_texts page)))) (length-map page.tasks without_task)
-    ∙ ap (λ running. left_out (length page.tasks) (tasks_before (map without_task page.tasks) page.fault running)) (open-same page)
-    ∙ ap (left_out (length page.tasks)) (before-same page.tasks page.fault (is_open page))
-
-pub tasks-shown : (page : Page) → shown_tasks (without_texts page) ≡ map without_task (shown_tasks page)
-unfolding shown_tasks without_texts
-tasks-shown page =
-    ap (λ left. shown left (map without_task page.tasks)) (first-same page) ∙ shown-map without_task (first_shown page) page.tasks

@@ -2,7 +2,7 @@
 use Rattle.std.proofs.Common.{◌≡◌, ◌+◌, ◌-◌, ◌*◌, ◌/◌, ◌%◌, ℕ, Bool, true, false, cond, List, [], ◌∷◌, ◌++◌, min, refl}
 use Rattle.std.specs.Prelude.{◌==◌, nat_lt, codes, decimal}
 use Rattle.std.specs.List.{list_all}
-use Rattle.wh_html.specs.Times.{last_time, two, year_of, month_of, day_of, fraction_text, clock_text, instant_text, stamp_text, span_text}
+use Rattle.wh_html.specs.Times.{last_time, two, year_of, month_of, day_of, fraction_text, clock_text, instant_text, stamp_text, pair_text, brief_text, units_text, long_text, span_text}
 use Rattle.wh_html.specs.Html.{Html, ◌⊕◌, stamp, span}
 use Rattle.wh_html.proofs.Harmless.{all-append}
 use Rattle.wh_html.proofs.Alike.{Alike, is_inner, decimal-inner, both, words}
@@ -49,10 +49,10 @@ instant-inner : (n : ℕ) → IsInner (instant_text n)
 unfolding instant_text
 instant-inner n =
     let day = n / 86_400_000 in
-    let clock = codes " " ++ clock_text n in
+    let clock = codes "T" ++ (clock_text n ++ codes "Z") in
     let days = two (day_of day) ++ clock in
     let months = two (month_of day) ++ (dash ++ days) in
-    let late : IsInner clock = join (codes " ") (clock_text n) refl (clock-inner n) in
+    let late : IsInner clock = join (codes "T") (clock_text n ++ codes "Z") refl (join (clock_text n) (codes "Z") (clock-inner n) refl) in
     let daily : IsInner days = join (two (day_of day)) clock (two-inner (day_of day)) late in
     let monthly : IsInner months = join (two (month_of day)) (dash ++ days) (two-inner (month_of day)) (join dash days refl daily) in
     join (decimal (year_of day)) (dash ++ months) (decimal-inner (year_of day)) (join dash months refl monthly)
@@ -70,23 +70,36 @@ choose : (b : Bool) (xs ys : List ℕ) → IsInner xs → IsInner ys → IsInner
 choose true xs ys p q = p
 choose false xs ys p q = q
 
--- the text of a span, of its units
-span-of : (a b c d e : Bool) (millis seconds minutes hours days : ℕ) → IsInner (cond a (decimal (millis % 1_000) ++ codes " ms") (cond b (decimal seconds ++ (codes "." ++ (decimal (millis % 1_000 / 100) ++ codes " s"))) (cond c (decimal seconds ++ codes " s") (cond d (decimal minutes ++ (codes " min " ++ (decimal (seconds % 60) ++ codes " s"))) (cond e (decimal hours ++ (codes " h " ++ (decimal (minutes % 60) ++ codes " min"))) (decimal days ++ (codes " d " ++ (decimal (hours % 24) ++ codes " h"))))))))
-span-of true b c d e millis seconds minutes hours days = unit (millis % 1_000) (codes " ms") refl
-span-of false true c d e millis seconds minutes hours days = units seconds (millis % 1_000 / 100) (codes ".") (codes " s") refl refl
-span-of false false true d e millis seconds minutes hours days = unit seconds (codes " s") refl
-span-of false false false true e millis seconds minutes hours days = units minutes (seconds % 60) (codes " min ") (codes " s") refl refl
-span-of false false false false true millis seconds minutes hours days = units hours (minutes % 60) (codes " h ") (codes " min") refl refl
-span-of false false false false false millis seconds minutes hours days = units days (hours % 24) (codes " d ") (codes " h") refl refl
+pair-inner : (large small : ℕ) (word part : List ℕ) → IsInner word → IsInner part → IsInner (pair_text large word small part)
+pair-inner large small word part p q =
+    choose (small == 0) (decimal large ++ (codes " " ++ word)) (decimal large ++ (codes " " ++ (word ++ (codes " " ++ (decimal small ++ (codes " " ++ part))))))
+    (unit large (codes " " ++ word) (join (codes " ") word refl p))
+    (unit large (codes " " ++ (word ++ (codes " " ++ (decimal small ++ (codes " " ++ part)))))
+    (join (codes " ") (word ++ (codes " " ++ (decimal small ++ (codes " " ++ part)))) refl
+    (join word (codes " " ++ (decimal small ++ (codes " " ++ part))) p
+    (join (codes " ") (decimal small ++ (codes " " ++ part)) refl (unit small (codes " " ++ part) (join (codes " ") part refl q))))))
+
+brief-inner : (n : ℕ) → IsInner (brief_text n)
+brief-inner n =
+    choose (nat_lt n 100) (decimal n ++ codes " ms") (decimal (n / 1_000) ++ (codes "." ++ (decimal (n % 1_000 / 100) ++ codes " s")))
+    (unit n (codes " ms") refl) (units (n / 1_000) (n % 1_000 / 100) (codes ".") (codes " s") refl refl)
+
+units-inner : (n : ℕ) → IsInner (units_text n)
+units-inner n =
+    let minutes = pair_text (n / 60) (codes "min") (n % 60) (codes "s") in
+    let hours = pair_text (n / 3_600) (codes "h") (n / 60 % 60) (codes "min") in
+    let days = pair_text (n / 86_400) (codes "d") (n / 3_600 % 24) (codes "h") in
+    choose (nat_lt n 3_600) minutes (cond (nat_lt n 86_400) hours days)
+    (pair-inner (n / 60) (n % 60) (codes "min") (codes "s") refl refl)
+    (choose (nat_lt n 86_400) hours days (pair-inner (n / 3_600) (n / 60 % 60) (codes "h") (codes "min") refl refl)
+    (pair-inner (n / 86_400) (n / 3_600 % 24) (codes "d") (codes "h") refl refl))
 
 span-inner : (n : ℕ) → IsInner (span_text n)
 unfolding span_text
 span-inner n =
     let seconds = n / 1_000 in
-    let minutes = seconds / 60 in
-    let hours = minutes / 60 in
-    let days = hours / 24 in
-    span-of (seconds == 0) (nat_lt seconds 10) (minutes == 0) (hours == 0) (days == 0) n seconds minutes hours days
+    choose (nat_lt n 10_000) (brief_text n) (long_text seconds) (brief-inner n)
+    (choose (nat_lt seconds 60) (decimal seconds ++ codes " s") (units_text seconds) (unit seconds (codes " s") refl) (units-inner seconds))
 
 -- a time, and then more
 pub time : {s u : Bool} (n : ℕ) {a b : Html} → Alike s u a b → Alike s u (stamp n ⊕ a) (stamp n ⊕ b)

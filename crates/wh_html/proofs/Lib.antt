@@ -8,3 +8,4 @@ pub mod Rising
 pub mod WordsInner
 pub mod Drawn
 pub mod Shown
+mod Labels

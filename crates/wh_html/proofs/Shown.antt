@@ -4,9 +4,6 @@ use Rattle.std.specs.Prelude.{nat_lt, not, ◌||◌, unwrap_or}
 use Rattle.std.specs.List.{list_any, position, position_or_len}
 use Rattle.std.proofs.lemmas.Bool.{lt-ltb}
 use Rattle.std.proofs.lemmas.List.{length-take, length-drop, take_all}
-use Rattle.wh_html.specs.declared.page.Task.{Task}
-use Rattle.wh_html.specs.Views.{left_out, shown, is_open, tasks_before, first_shown, shown_tasks}
-use Rattle.wh_html.specs.PictureLaws.{TasksAreFew, EndsAreShown, BeginningsAreShown}
 
 module _ {A : Type 0} where
   -- one of the items of a list that begins with an item passes
@@ -51,37 +48,3 @@ module _ {A : Type 0} where
   pub position-any : (p : A → Bool) (xs : List A) (other : ℕ) → list_any p xs ≡ true → unwrap_or (position p xs) other ≡ position_or_len p xs
   position-any p xs other h =
       ap (λ b. unwrap_or (cond b (Some (position_or_len p xs)) None) other) (lt-ltb (position_or_len p xs) (length xs) (any-below p xs h))
-
-pub tasks_are_few : TasksAreFew
-unfolding shown_tasks
-tasks_are_few page = rw length-take (omega arith)
-
--- nothing is left out before the first 300 items
-none_left : (total : ℕ) → left_out total 0 ≡ 0
-none_left total = omega arith
-
--- the last 300 items
-last_shown : (total at left : ℕ) → at ≡ total → left ≡ left_out total at → left ≡ total - 300
-last_shown total at left e f = f ∙ ap (left_out total) e ∙ omega arith
-
-shown-last : (tasks : List Task) (left : ℕ) → left ≡ length tasks - 300 → shown left tasks ≡ drop (length tasks - 300) tasks
-shown-last tasks left e =
-    let fits : length (drop left tasks) ≤ 300 = rw length-drop (omega arith) in
-    take_all 300 (drop left tasks) fits ∙ ap (λ n. drop n tasks) e
-
-pub ends_are_shown : EndsAreShown
-unfolding shown_tasks first_shown
-ends_are_shown page no_fault running =
-    let total = length page.tasks in
-    let at : tasks_before page.tasks page.fault (is_open page) ≡ total =
-    ap (λ fault. tasks_before page.tasks fault (is_open page)) no_fault ∙ ap (λ b. cond b total 0) running in
-    shown-last page.tasks (first_shown page) (last_shown total _ (first_shown page) at refl)
-
-pub beginnings_are_shown : BeginningsAreShown
-unfolding shown_tasks first_shown
-beginnings_are_shown page no_fault closed =
-    let total = length page.tasks in
-    let at : tasks_before page.tasks page.fault (is_open page) ≡ 0 =
-    ap (λ fault. tasks_before page.tasks fault (is_open page)) no_fault ∙ ap (λ b. cond b total 0) closed in
-    let none : left_out total (tasks_before page.tasks page.fault (is_open page)) ≡ 0 = ap (left_out total) at ∙ none_left total in
-    ap (λ left. shown left page.tasks) none

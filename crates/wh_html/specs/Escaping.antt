@@ -7,12 +7,12 @@ use Rattle.std.specs.Str.{chars}
 abbrev pub is_within : ℕ → ℕ → ℕ → Bool
 is_within low high c = nat_le low c && nat_le c high
 
--- a character that would not be seen as what it is: a control character beyond ASCII, or one that changes the direction
--- of writing
+-- a character that would not be seen as what it is: a control character beyond ASCII, one that changes the direction of
+-- writing, or one that XML forbids
 abbrev pub is_unseen : ℕ → Bool
 is_unseen c =
     is_within 128 159 c || is_within 8206 8207 c || is_within 8232 8238 c || is_within 8294 8297 c
-    || c == 1564 || c == 65279
+    || is_within 65534 65535 c || c == 1564 || c == 65279
 
 -- a character as it is shown: a control character of ASCII as its picture; another one that would not be seen, as
 -- U+FFFD

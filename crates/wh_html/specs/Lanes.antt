@@ -1,5 +1,6 @@
 -- The things of the picture.
-use Rattle.std.specs.Prelude.{ℕ, ◌+◌, ◌-◌, ◌*◌, ◌%◌, ◌==◌, ◌||◌, Bool, true, false, max, min, if◌then◌else◌, Option, Some, None, List, [], codes}
+use Rattle.std.specs.Prelude.{ℕ, ◌+◌, ◌-◌, ◌*◌, ◌%◌, ◌==◌, ◌||◌, Bool, true, false, nat_le, max, min, if◌then◌else◌, Option, Some, None, List, [], length, codes}
+use Rattle.std.specs.Str.{chars}
 use Rattle.wh_html.specs.declared.axis.Stop.{Stop}
 use Rattle.wh_html.specs.declared.page.Kind.{Kind}
 use Rattle.wh_html.specs.declared.page.Kind.TheVariants.{Activity, Timer, Child, Signal, Request, Marker}
@@ -122,11 +123,22 @@ classes_html lane fault =
     ⊕ plain (outcome_class lane.outcome)
     ⊕ plain (hit_class (is_hit lane fault))
 
+-- how many characters of a type a label has beside an id of so many: 27 with those of the id if these are 14 at most,
+-- else 20
+abbrev pub type_room : (id : ℕ) → ℕ
+type_room id = if nat_le id 14 then 27 - id else 20
+
+-- how many characters of the id it has beside those of a type of so many
+abbrev pub id_room : (name id : ℕ) → ℕ
+id_room name id = 27 - min name (type_room id)
+
 -- the label of a thing alone in its row: its type with its id, or else its id alone
 abbrev pub label_html : Option (List ℕ) → List ℕ → Html
 label_html None name = hole 25 name
 label_html (Some type_name) name =
-    hole 20 type_name ⊕ markup (codes " <tspan class=\"id\">") ⊕ hole 8 name ⊕ markup (codes "</tspan>")
+    let id = length (chars name) in
+    hole (type_room id) type_name ⊕ markup (codes " <tspan class=\"id\">")
+    ⊕ hole (id_room (length (chars type_name)) id) name ⊕ markup (codes "</tspan>")
 
 -- the label of things that share a row: their type, or the name of what happens at once, or else their kind
 abbrev pub shared_label_html : Kind → Option (List ℕ) → List ℕ → Html

@@ -1,9 +1,8 @@
--- What holds of every axis, and of what a page shows.
-use Rattle.std.specs.Prelude.{◌≡◌, ◌≤◌, ◌-◌, ℕ, true, false, None, List, length, take, drop}
+-- What holds of every axis, and of labels.
+use Rattle.std.specs.Prelude.{◌≤◌, ◌+◌, ℕ, List, min}
 use Rattle.wh_html.specs.declared.axis.Stop.{Stop}
-use Rattle.wh_html.specs.declared.page.Page.{Page}
-use Rattle.wh_html.specs.Views.{is_open, shown_tasks}
 use Rattle.wh_html.specs.Axes.{left, right, place_of, GoesRight}
+use Rattle.wh_html.specs.Lanes.{id_room, type_room}
 
 -- a later time never stands further left
 abbrev pub PlacesRise : Type 0
@@ -15,16 +14,10 @@ PlacesRise =
 abbrev pub PlacesEnd : Type 0
 PlacesEnd = (stops : List Stop) → GoesRight left stops → (millis : ℕ) → place_of stops millis ≤ right
 
--- a page shows 300 tasks at most
-abbrev pub TasksAreFew : Type 0
-TasksAreFew = (page : Page) → length (shown_tasks page) ≤ 300
+-- a type and an id of so many characters have at most 27 in a label
+abbrev pub LabelsFit : Type 0
+LabelsFit = (name id : ℕ) → min name (type_room id) + min id (id_room name id) ≤ 27
 
--- if nothing is at fault, the page of an open run shows its last tasks, and that of a closed one its first
-abbrev pub EndsAreShown : Type 0
-EndsAreShown =
-    (page : Page) → page.fault ≡ None → is_open page ≡ true
-    → shown_tasks page ≡ drop (length page.tasks - 300) page.tasks
-
-abbrev pub BeginningsAreShown : Type 0
-BeginningsAreShown =
-    (page : Page) → page.fault ≡ None → is_open page ≡ false → shown_tasks page ≡ take 300 page.tasks
+-- an id of 14 characters or fewer is shown whole, whatever its type
+abbrev pub ShortIdsAreWhole : Type 0
+ShortIdsAreWhole = (name id : ℕ) → id ≤ 14 → id ≤ id_room name id

@@ -52,27 +52,40 @@ clock_text millis =
     two (millis / 3_600_000 % 24) ++ (codes ":" ++ (two (millis / 60_000 % 60) ++ (codes ":"
     ++ (two (millis / 1_000 % 60) ++ fraction_text (millis % 1_000)))))
 
--- an instant of the years up to 9999, in UTC
+-- an instant of the years up to 9999, in UTC, as the JSON of histories has times
 unfoldable pub instant_text : (millis : ℕ) → List ℕ
 instant_text millis =
     let day = millis / 86_400_000 in
     decimal (year_of day)
-    ++ (codes "-" ++ (two (month_of day) ++ (codes "-" ++ (two (day_of day) ++ (codes " " ++ clock_text millis)))))
+    ++ (codes "-" ++ (two (month_of day) ++ (codes "-" ++ (two (day_of day) ++ (codes "T" ++ (clock_text millis ++ codes "Z"))))))
 
 -- a time in milliseconds from 1970-01-01T00:00:00Z, in UTC; a time after the year 9999 as the end of that year
 abbrev pub stamp_text : (millis : ℕ) → List ℕ
 stamp_text millis = instant_text (min millis last_time)
 
--- a span of time in milliseconds, by its two largest units
+-- a span of time by two units, the smaller one only if there are some of it
+abbrev pub pair_text : ℕ → List ℕ → ℕ → List ℕ → List ℕ
+pair_text large unit small part =
+    if small == 0 then decimal large ++ (codes " " ++ unit)
+    else decimal large ++ (codes " " ++ (unit ++ (codes " " ++ (decimal small ++ (codes " " ++ part)))))
+
+-- a span of time below ten seconds, in milliseconds
+abbrev pub brief_text : ℕ → List ℕ
+brief_text millis =
+    if nat_lt millis 100 then decimal millis ++ codes " ms"
+    else decimal (millis / 1_000) ++ (codes "." ++ (decimal (millis % 1_000 / 100) ++ codes " s"))
+
+-- a span of a minute or more, in seconds, by its two largest units
+abbrev pub units_text : ℕ → List ℕ
+units_text seconds =
+    if nat_lt seconds 3_600 then pair_text (seconds / 60) (codes "min") (seconds % 60) (codes "s")
+    else (if nat_lt seconds 86_400 then pair_text (seconds / 3_600) (codes "h") (seconds / 60 % 60) (codes "min")
+    else pair_text (seconds / 86_400) (codes "d") (seconds / 3_600 % 24) (codes "h"))
+
+-- a span of ten seconds or more, in seconds
+abbrev pub long_text : ℕ → List ℕ
+long_text seconds = if nat_lt seconds 60 then decimal seconds ++ codes " s" else units_text seconds
+
+-- a span of time in milliseconds, rounded down to what is shown
 unfoldable pub span_text : (millis : ℕ) → List ℕ
-span_text millis =
-    let seconds = millis / 1_000 in
-    let minutes = seconds / 60 in
-    let hours = minutes / 60 in
-    let days = hours / 24 in
-    if seconds == 0 then decimal (millis % 1_000) ++ codes " ms"
-    else (if nat_lt seconds 10 then decimal seconds ++ (codes "." ++ (decimal (millis % 1_000 / 100) ++ codes " s"))
-    else (if minutes == 0 then decimal seconds ++ codes " s"
-    else (if hours == 0 then decimal minutes ++ (codes " min " ++ (decimal (seconds % 60) ++ codes " s"))
-    else (if days == 0 then decimal hours ++ (codes " h " ++ (decimal (minutes % 60) ++ codes " min"))
-    else decimal days ++ (codes " d " ++ (decimal (hours % 24) ++ codes " h"))))))
+span_text millis = if nat_lt millis 10_000 then brief_text millis else long_text (millis / 1_000)

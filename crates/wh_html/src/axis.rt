@@ -7,7 +7,6 @@ ghost use Rattle.wh_html.specs.Views.{IsAxisOf};
 ghost use Rattle.std.specs.List.{flat_map};
 
 use crate::page::{Lane, Moment, Page, Task};
-use crate::view::shown_tasks;
 use std::alloc::Global;
 use wh_events::{Items, OutOfMemory};
 
@@ -373,7 +372,7 @@ fn stops_of(alloc: Global, times: &[u64], scale: Scale) -> Result<Vec<Stop>, Out
 pub fn axis_of(alloc: Global, page: &Page) -> Result<Axis, OutOfMemory>
     ensures { IfOk result (λ axis. IsAxisOf page.now axis.stops) }
 {
-    let times = times_of(alloc, page.lanes.get(), shown_tasks(page), page.fault)?;
+    let times = times_of(alloc, page.lanes.get(), page.tasks.get(), page.fault)?;
     let scale = scale_of(times.as_slice());
     let stops = stops_of(alloc, times.as_slice(), scale)?;
     Ok(Axis {

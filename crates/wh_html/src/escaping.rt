@@ -11,8 +11,9 @@ use wh_events::Text;
 /// The first characters of a text, escaped for HTML. `&`, `<`, `>` and quotation marks are written
 /// as character references
 /// (<https://html.spec.whatwg.org/multipage/syntax.html#character-references>). A control character
-/// of ASCII is replaced by its picture (U+2400 to U+2421); another control character, or one that
-/// changes the direction of writing, by U+FFFD. If the text is longer, `…` follows.
+/// of ASCII is replaced by its picture (U+2400 to U+2421); another control character, one that
+/// changes the direction of writing, and U+FFFE and U+FFFF, which XML forbids
+/// (<https://www.w3.org/TR/xml/#charsets>), by U+FFFD. If the text is longer, `…` follows.
 #[derive(Drop)]
 pub struct Escaped<'a> {
     /// The text.
@@ -22,8 +23,8 @@ pub struct Escaped<'a> {
 }
 
 /// Returns whether a character would not be seen as what it is: a control character beyond ASCII,
-/// or one that changes the direction of writing.
-fn is_unseen(c: char) -> bool
+/// one that changes the direction of writing, or one that XML forbids.
+pub fn is_unseen(c: char) -> bool
     ensures { result ≡ is_unseen c }
 {
     matches!(
@@ -32,6 +33,7 @@ fn is_unseen(c: char) -> bool
             | '\u{200e}'..='\u{200f}'
             | '\u{2028}'..='\u{202e}'
             | '\u{2066}'..='\u{2069}'
+            | '\u{fffe}'..='\u{ffff}'
             | '\u{61c}'
             | '\u{feff}'
     )
@@ -95,7 +97,7 @@ fn write_first<W: fmt::Write>(text: &str, most: usize, f: &mut fmt::Formatter<W>
 }
 
 /// Returns how many characters a text has.
-fn char_count(text: &str) -> usize
+pub(crate) fn char_count(text: &str) -> usize
     ensures { result ≡ length (chars text.now) }
 {
     text.chars().count()

@@ -4,10 +4,10 @@ ghost use Rattle.std.specs.Prelude.{◌≡◌, Some};
 ghost use Rattle.wh_html.specs.Html.{bytes, each};
 ghost use Rattle.wh_html.specs.Axes.{place_of};
 ghost use Rattle.wh_html.specs.Lanes.{hit_class, is_at, is_hit, event_html, span_html, spans_html, thing_html, title_html, bar_html, end_of, bars_html, dot_html, is_at_once, sign_html, cancel_html, classes_html};
-ghost use Rattle.wh_html.specs.Lanes.{label_html, shared_label_html, said_html, count_html, times_html, counts_html, room_class, ground_html, part_html, top_of, lane_html};
+ghost use Rattle.wh_html.specs.Lanes.{type_room, id_room, label_html, shared_label_html, said_html, count_html, times_html, counts_html, room_class, ground_html, part_html, top_of, lane_html};
 
 use crate::axis::{RIGHT, Stop, place_of};
-use crate::escaping::Escaped;
+use crate::escaping::{Escaped, char_count};
 use crate::page::{Kind, Lane, Moment, RowPart};
 use crate::times::Stamp;
 use std::fmt;
@@ -296,6 +296,21 @@ impl fmt::Display for Classes<'_> {
     }
 }
 
+/// Returns how many characters of a type a label has beside an id of so many: 27 with those of the
+/// id if these are 14 at most, else 20.
+fn type_room(id: usize) -> usize
+    ensures { result ≡ type_room id }
+{
+    if id <= 14 { 27 - id } else { 20 }
+}
+
+/// Returns how many characters of an id a label has beside those of a type.
+fn id_room(name: usize, id: usize) -> usize
+    ensures { result ≡ id_room name id }
+{
+    27_usize.saturating_sub(name.min(type_room(id)))
+}
+
 /// The label of a thing alone in its row: its type with its id, or else its id alone.
 #[derive(Drop)]
 struct Label<'a>(&'a Lane);
@@ -306,13 +321,15 @@ impl fmt::Display for Label<'_> {
     fn fmt<W: fmt::Write>(&self, f: &mut fmt::Formatter<W>) -> fmt::Result {
         match &self.0.type_name {
             Some(type_name) => {
+                let count = char_count(self.0.name.get());
+                let room = id_room(char_count(type_name.get()), count);
                 let type_name = Escaped {
                     text: type_name,
-                    most: 20,
+                    most: type_room(count),
                 };
                 let id = Escaped {
                     text: &self.0.name,
-                    most: 8,
+                    most: room,
                 };
                 write!(f, "{type_name} <tspan class=\"id\">{id}</tspan>")
             }

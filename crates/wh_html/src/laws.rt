@@ -1,7 +1,7 @@
-//! What holds of texts within HTML, of every axis and of what a page shows, each law as the
-//! contract of a function that does nothing.
+//! What holds of texts within HTML, of every axis and of labels, each law as the contract of a
+//! function that does nothing.
 ghost use Rattle.wh_html.specs.Laws.{TextsAreHarmless, TextsAreRead};
-ghost use Rattle.wh_html.specs.PictureLaws.{PlacesRise, PlacesEnd, TasksAreFew, EndsAreShown, BeginningsAreShown};
+ghost use Rattle.wh_html.specs.PictureLaws.{PlacesRise, PlacesEnd, LabelsFit, ShortIdsAreWhole};
 
 /// A text within HTML has neither `<`, `>` nor a quotation mark, and no control character of ASCII.
 pub fn texts_are_harmless()
@@ -20,10 +20,9 @@ pub fn places_rise()
     ensures end { PlacesEnd }
 {}
 
-/// A page shows no more than 300 tasks. If nothing is at fault, the page of an open run shows its
-/// last tasks, and that of a closed one its first.
-pub fn tasks_are_few()
-    ensures few { TasksAreFew }
-    ensures ends { EndsAreShown }
-    ensures beginnings { BeginningsAreShown }
+/// A label in the picture has no more than 27 characters of a type and an id, and an id of 14 or
+/// fewer whole, as `local activity`.
+pub fn labels_fit()
+    ensures fit { LabelsFit }
+    ensures whole { ShortIdsAreWhole }
 {}

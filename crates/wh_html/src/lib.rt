@@ -14,12 +14,12 @@ mod times;
 mod view;
 
 pub use axis::{Axis, Gap, Stop, axis_of};
-pub use escaping::Escaped;
+pub use escaping::{Escaped, is_unseen};
 pub use lanes::Classes;
 pub use page::{
     Difference, Fact, Kind, Lane, Longest, Moment, Page, RowPart, Side, SumOfType, Task, TaskLine,
     ThingOutcome,
 };
 pub use picture::Picture;
-pub use times::{LAST_TIME, Stamp, TimeSpan};
-pub use view::{first_items, first_shown, shown_tasks};
+pub use times::{LAST_TIME, SpanText, Stamp};
+pub use view::{first_items, first_shown, shown_items};

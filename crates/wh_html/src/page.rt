@@ -213,8 +213,12 @@ pub struct Page {
     pub things: usize,
     /// What the things of each type come to, whether they are shown or not.
     pub sums: Items<SumOfType>,
-    /// The tasks, in the order of the events that started them.
+    /// The tasks that the page shows, in the order of the events that started them.
     pub tasks: Items<Task>,
+    /// How many tasks are left out before them.
+    pub earlier: usize,
+    /// How many tasks the run has in all.
+    pub all_tasks: usize,
     /// What else a reader has to know, such as what is not supported.
     pub notes: Items<Text>,
 }

@@ -8,7 +8,7 @@ use crate::axis::{Gap, Stop, place_of};
 use crate::escaping::Escaped;
 use crate::lanes::{LaneRows, hit_class, top_of};
 use crate::page::{Lane, Moment, Task};
-use crate::times::{Stamp, TimeSpan};
+use crate::times::{SpanText, Stamp};
 use std::fmt;
 
 /// The least room for the words of a gap, in units of the picture.
@@ -77,7 +77,7 @@ impl fmt::Display for GapWord {
     fn fmt<W: fmt::Write>(&self, f: &mut fmt::Formatter<W>) -> fmt::Result {
         if GAP_WORD <= self.to.saturating_sub(self.from) {
             let x = self.from / 2 + self.to / 2;
-            let span = TimeSpan(self.millis);
+            let span = SpanText(self.millis);
             write!(f, "<text class=\"scale\" x=\"{x}\" y=\"34\">{span}</text>")
         } else {
             Ok(())
@@ -99,7 +99,7 @@ impl fmt::Display for Before {
     fn fmt<W: fmt::Write>(&self, f: &mut fmt::Formatter<W>) -> fmt::Result {
         match self.gap {
             Some(gap) => {
-                let span = TimeSpan(gap.millis);
+                let span = SpanText(gap.millis);
                 let from = gap.from;
                 let width = self.to.saturating_sub(from);
                 let height = self.bottom.saturating_sub(20);
@@ -133,7 +133,7 @@ impl fmt::Display for ScaleMark<'_> {
         if self.stop.marked {
             let x = self.stop.x;
             let bottom = self.bottom;
-            let span = TimeSpan(self.stop.millis.saturating_sub(self.first));
+            let span = SpanText(self.stop.millis.saturating_sub(self.first));
             write!(
                 f,
                 "<text class=\"scale\" x=\"{x}\" y=\"14\">+{span}</text><line class=\"grid\" x1=\"{x}\" x2=\"{x}\" y1=\"20\" y2=\"{bottom}\"/>\n"

@@ -1,7 +1,8 @@
 //! Times and spans of time, as text.
 
 ghost use Rattle.std.specs.Prelude.{◌≡◌, ◌<◌, Some};
-ghost use Rattle.wh_html.specs.Times.{two, years_before, year_of, month_of, day_of, fraction_text, clock_text, stamp_text, span_text};
+ghost use Rattle.wh_html.specs.Times.{two, years_before, year_of, month_of, day_of, fraction_text, clock_text, stamp_text};
+ghost use Rattle.wh_html.specs.Times.{pair_text, brief_text, units_text, long_text, span_text};
 
 use std::fmt;
 
@@ -103,8 +104,10 @@ impl fmt::Display for Clock {
     }
 }
 
-/// A time in milliseconds from 1970-01-01T00:00:00Z, in UTC: `2024-05-01 10:00:03.250`, with no
-/// fraction if it is a whole second. A time later than `LAST_TIME` is written as `LAST_TIME`.
+/// A time in milliseconds from 1970-01-01T00:00:00Z, in UTC, as the JSON of histories has times:
+/// `2024-05-01T10:00:03.250Z`, with no fraction if it is a whole second
+/// (<https://protobuf.dev/programming-guides/json/>). A time later than `LAST_TIME` is written as
+/// `LAST_TIME`.
 #[derive(Clone, Copy)]
 pub struct Stamp(pub u64);
 
@@ -119,43 +122,113 @@ impl fmt::Display for Stamp {
         let month = Two(date.month);
         let day = Two(date.day);
         let clock = Clock(millis);
-        write!(f, "{year}-{month}-{day} {clock}")
+        write!(f, "{year}-{month}-{day}T{clock}Z")
     }
 }
 
-/// A span of time in milliseconds, by its two largest units: `1 h 12 min`.
+/// A span of time by two units, the smaller one only if there are some of it: `5 min 33 s`, `14 d`.
 #[derive(Clone, Copy)]
-pub struct TimeSpan(pub u64);
+struct UnitPair {
+    large: u64,
+    unit: &'static str,
+    small: u64,
+    part: &'static str,
+}
 
-impl fmt::Display for TimeSpan {
+impl fmt::Display for UnitPair {
+    ghost output = { λ p. Some (pair_text p.large p.unit.now p.small p.part.now) };
+
+    fn fmt<W: fmt::Write>(&self, f: &mut fmt::Formatter<W>) -> fmt::Result {
+        let large = self.large;
+        let unit = self.unit;
+        let small = self.small;
+        let part = self.part;
+        if small == 0 {
+            write!(f, "{large} {unit}")
+        } else {
+            write!(f, "{large} {unit} {small} {part}")
+        }
+    }
+}
+
+/// A span of time below ten seconds, in milliseconds: `80 ms`, `0.3 s`.
+#[derive(Clone, Copy)]
+struct BriefSpan(u64);
+
+impl fmt::Display for BriefSpan {
+    ghost output = { λ b. Some (brief_text b.0) };
+
+    fn fmt<W: fmt::Write>(&self, f: &mut fmt::Formatter<W>) -> fmt::Result {
+        let millis = self.0;
+        if millis < 100 {
+            return write!(f, "{millis} ms");
+        }
+        let seconds = millis / 1_000;
+        let tenths = millis % 1_000 / 100;
+        write!(f, "{seconds}.{tenths} s")
+    }
+}
+
+/// Returns a span of a minute or more, in seconds, by its two largest units.
+fn unit_pair(seconds: u64) -> UnitPair
+    ensures { pair_text result.large result.unit.now result.small result.part.now ≡ units_text seconds }
+{
+    if seconds < 3_600 {
+        UnitPair {
+            large: seconds / 60,
+            unit: "min",
+            small: seconds % 60,
+            part: "s",
+        }
+    } else if seconds < 86_400 {
+        UnitPair {
+            large: seconds / 3_600,
+            unit: "h",
+            small: seconds / 60 % 60,
+            part: "min",
+        }
+    } else {
+        UnitPair {
+            large: seconds / 86_400,
+            unit: "d",
+            small: seconds / 3_600 % 24,
+            part: "h",
+        }
+    }
+}
+
+/// A span of time of ten seconds or more, in seconds.
+#[derive(Clone, Copy)]
+struct LongSpan(u64);
+
+impl fmt::Display for LongSpan {
+    ghost output = { λ l. Some (long_text l.0) };
+
+    fn fmt<W: fmt::Write>(&self, f: &mut fmt::Formatter<W>) -> fmt::Result {
+        let seconds = self.0;
+        if seconds < 60 {
+            return write!(f, "{seconds} s");
+        }
+        let pair = unit_pair(seconds);
+        write!(f, "{pair}")
+    }
+}
+
+/// A span of time in milliseconds, rounded down to what is shown: `0.3 s`, `5 min 33 s`, `14 d`.
+#[derive(Clone, Copy)]
+pub struct SpanText(pub u64);
+
+impl fmt::Display for SpanText {
     ghost output = { λ t. Some (span_text t.0) };
 
     #[tactic(auto, unfolding(crate::specs::Times::span_text))]
     fn fmt<W: fmt::Write>(&self, f: &mut fmt::Formatter<W>) -> fmt::Result {
-        let millis = self.0 % 1_000;
-        let seconds = self.0 / 1_000;
-        let minutes = seconds / 60;
-        let hours = minutes / 60;
-        let days = hours / 24;
-        if seconds == 0 {
-            return write!(f, "{millis} ms");
+        let millis = self.0;
+        if millis < 10_000 {
+            let brief = BriefSpan(millis);
+            return write!(f, "{brief}");
         }
-        if seconds < 10 {
-            let tenths = millis / 100;
-            return write!(f, "{seconds}.{tenths} s");
-        }
-        if minutes == 0 {
-            return write!(f, "{seconds} s");
-        }
-        if hours == 0 {
-            let seconds = seconds % 60;
-            return write!(f, "{minutes} min {seconds} s");
-        }
-        if days == 0 {
-            let minutes = minutes % 60;
-            return write!(f, "{hours} h {minutes} min");
-        }
-        let hours = hours % 24;
-        write!(f, "{days} d {hours} h")
+        let long = LongSpan(millis / 1_000);
+        write!(f, "{long}")
     }
 }

@@ -7,7 +7,6 @@ use Rattle.wh_html.specs.declared.axis.Stop.{Stop}
 use Rattle.wh_html.specs.declared.page.TaskLine.{TaskLine}
 use Rattle.wh_html.specs.declared.page.Page.{Page}
 use Rattle.wh_html.specs.declared.page.SumOfType.{SumOfType}
-use Rattle.wh_html.specs.Views.{shown_tasks}
 use Rattle.wh_html.proofs.Shown.{any-taken, any-below, position-any}
 use Rattle.wh_page.specs.Frames.{verdict_html, frame_html}
 use Rattle.wh_page.specs.Sums.{sum_html, filled_html, sums_html}
@@ -71,7 +70,7 @@ sum-part stops page part h some = right _ _ _ (right _ _ _ (right _ _ _ (right _
 some-taken : {A : Type 0} (xs : List A) (k : ℕ) → k < length (take 100 xs) → 0 < length xs
 some-taken xs k h = let few = length-take 100 xs in omega arith
 
-task-part : (stops : List Stop) (page : Page) (part : Html) → IsPart part (each task_html (shown_tasks page)) → IsPart part (body_html stops page)
+task-part : (stops : List Stop) (page : Page) (part : Html) → IsPart part (each task_html page.tasks) → IsPart part (body_html stops page)
 unfolding body_html tasks_html
 task-part stops page part h = right _ _ _ (right _ _ _ (right _ _ _ (right _ _ _ (right _ _ _ (right _ _ _ (right _ _ _ (right _ _ _ (left _ _ _ h))))))))
 
@@ -83,7 +82,7 @@ shows_its_parts stops page more =
       verdict = stands whole (verdict_html page) (within _ (verdict-part stops page));
       sums = λ k d h. stands whole (sum_html (get_or (take 100 page.sums) k d)) (within _ (sum-part stops page _ (each-part sum_html (take 100 page.sums) k d h) (some-taken page.sums k h)));
       things = λ k d h. stands whole (row_html page.fault (get_or page.lanes k d)) (within _ (row-part stops page _ (each-part (row_html page.fault) page.lanes k d h)));
-      tasks = λ k d h. stands whole (task_html (get_or (shown_tasks page) k d)) (within _ (task-part stops page _ (each-part task_html (shown_tasks page) k d h)));
+      tasks = λ k d h. stands whole (task_html (get_or page.tasks k d)) (within _ (task-part stops page _ (each-part task_html page.tasks k d h)));
     }
 
 -- the line of the fault

@@ -18,10 +18,9 @@ use Rattle.wh_html.specs.declared.page.TaskLine.{TaskLine}
 use Rattle.wh_html.specs.declared.page.Moment.{Moment}
 use Rattle.wh_html.specs.declared.page.Page.{Page}
 use Rattle.wh_html.specs.declared.page.Task.{Task}
-use Rattle.wh_html.specs.Views.{shown, first_shown, shown_tasks}
 use Rattle.wh_html.specs.Without.{without_fact, without_difference, without_lane, without_longest, without_sum, without_line, without_task, without_texts}
 use Rattle.wh_html.proofs.WordsInner.{kind-inner, side-inner}
-use Rattle.wh_html.proofs.Drawn.{IsClosed, choose, classes-alike, picture-alike, first-same, tasks-shown}
+use Rattle.wh_html.proofs.Drawn.{IsClosed, choose, classes-alike, picture-alike}
 use Rattle.wh_page.specs.Frames.{head_html, verdict_class, verdict_html, fact_html, at_html, sides_html, difference_html, frame_html}
 use Rattle.wh_page.specs.Tables.{count_html, moment_html, length_html, label_html, attempts_html, row_head_html, row_html, table_html}
 use Rattle.wh_page.specs.Sums.{longest_html, counts_html, sum_html, filled_html, sums_html}
@@ -241,9 +240,8 @@ frame-alike page =
 body-alike : (stops : List Stop) (page : Page) → Alike false false (body_html stops page) (body_html stops (without_texts page))
 unfolding body_html without_texts
 body-alike stops page =
-    rw (tasks-shown page, first-same page, length-map page.tasks without_task)
-    (both (frame-alike page) (both (waits-alike page.waits) (both (notes-alike page.notes) (both (picture-alike page.fault stops page.lanes page.rows page.things (shown_tasks page))
-    (both (sums-alike page.sums) (both (table-alike page.fault page.lanes page.things) (tasks-alike (shown_tasks page) (first_shown page) (length page.tasks))))))))
+    (both (frame-alike page) (both (waits-alike page.waits) (both (notes-alike page.notes) (both (picture-alike page.fault stops page.lanes page.rows page.things page.tasks)
+    (both (sums-alike page.sums) (both (table-alike page.fault page.lanes page.things) (tasks-alike page.tasks page.earlier page.all_tasks)))))))
 
 pub texts_are_no_tags : TextsAreNoTags
 texts_are_no_tags stops page more other same =

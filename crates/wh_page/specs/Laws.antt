@@ -7,7 +7,6 @@ use Rattle.wh_html.specs.declared.page.TaskLine.{TaskLine}
 use Rattle.wh_html.specs.declared.page.Page.{Page}
 use Rattle.wh_html.specs.declared.axis.Stop.{Stop}
 use Rattle.wh_html.specs.Without.{without_texts}
-use Rattle.wh_html.specs.Views.{shown_tasks}
 use Rattle.wh_page.specs.Frames.{verdict_html}
 use Rattle.wh_page.specs.Sums.{sum_html}
 use Rattle.wh_page.specs.Tables.{row_html}
@@ -44,7 +43,7 @@ pub record HasParts (page : Page) (html : List ℕ) : Type 0 where
   pub verdict : StandsIn html (bytes (verdict_html page))
   pub sums : All (λ sum. StandsIn html (bytes (sum_html sum))) (take 100 page.sums)
   pub things : All (λ lane. StandsIn html (bytes (row_html page.fault lane))) page.lanes
-  pub tasks : All (λ task. StandsIn html (bytes (task_html task))) (shown_tasks page)
+  pub tasks : All (λ task. StandsIn html (bytes (task_html task))) page.tasks
 
 -- every page contains its parts
 abbrev pub ShowsItsParts : Type 0

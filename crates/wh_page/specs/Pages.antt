@@ -1,5 +1,5 @@
 -- The whole page.
-use Rattle.std.specs.Prelude.{List, codes, length}
+use Rattle.std.specs.Prelude.{List, codes}
 use Rattle.wh_html.specs.declared.page.Page.{Page}
 use Rattle.wh_html.specs.declared.axis.Stop.{Stop}
 use Rattle.wh_html.specs.Html.{Html, markup, ◌⊕◌}
@@ -8,7 +8,6 @@ use Rattle.wh_html.specs.Pictures.{picture_html}
 use Rattle.wh_page.specs.Sums.{sums_html}
 use Rattle.wh_page.specs.Tables.{table_html}
 use Rattle.wh_page.specs.TaskTexts.{tasks_html, waits_html, notes_html}
-use Rattle.wh_html.specs.Views.{first_shown, shown_tasks}
 
 -- the page, but for its end, with its times at these stops
 unfoldable pub body_html : List Stop → Page → Html
@@ -16,10 +15,10 @@ body_html stops page =
     frame_html page
     ⊕ waits_html page.waits
     ⊕ notes_html page.notes
-    ⊕ picture_html page.fault stops page.lanes page.rows page.things (shown_tasks page)
+    ⊕ picture_html page.fault stops page.lanes page.rows page.things page.tasks
     ⊕ sums_html page.sums
     ⊕ table_html page.fault page.lanes page.things
-    ⊕ tasks_html (shown_tasks page) (first_shown page) (length page.tasks)
+    ⊕ tasks_html page.tasks page.earlier page.all_tasks
 
 -- the end of a page
 abbrev pub end_html : Html

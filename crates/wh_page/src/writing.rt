@@ -12,7 +12,7 @@ use crate::table::ThingTable;
 use crate::tasks::{Notes, Tasks, Waits};
 use std::io;
 use std::io::Write;
-use wh_html::{Axis, Page, Picture, first_shown, shown_tasks};
+use wh_html::{Axis, Page, Picture};
 
 /// Writes a page, but for its end, with its times at the stops of an axis.
 #[tactic(auto, unfolding(crate::specs::Pages::body_html))]
@@ -29,7 +29,7 @@ fn write_parts<W: Write>(page: &Page, axis: &Axis, writer: &mut W) -> io::Result
         lanes: page.lanes.get(),
         rows: page.rows,
         total: page.things,
-        tasks: shown_tasks(page),
+        tasks: page.tasks.get(),
     };
     let sums = SumTable(page.sums.get());
     let table = ThingTable {
@@ -38,9 +38,9 @@ fn write_parts<W: Write>(page: &Page, axis: &Axis, writer: &mut W) -> io::Result
         total: page.things,
     };
     let tasks = Tasks {
-        tasks: shown_tasks(page),
-        before: first_shown(page),
-        total: page.tasks.get().len(),
+        tasks: page.tasks.get(),
+        before: page.earlier,
+        total: page.all_tasks,
     };
     write!(writer, "{frame}{waits}{notes}{picture}{sums}{table}{tasks}")
 }

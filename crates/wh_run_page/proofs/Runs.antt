@@ -13,7 +13,6 @@ use Rattle.wh_run_page.specs.declared.said.Said.{Said}
 use Rattle.wh_run_page.specs.declared.tasks.Group.{Group}
 use Rattle.wh_run_page.specs.Laws.{written_out, FollowOn, BeginsApart, AreApart, AreRuns, GroupsAreRuns, LinesAreAllEvents}
 use Rattle.wh_run_page.specs.Moments.{times_of}
-use Rattle.wh_run_page.specs.Pages.{timed_page, IsPageOf}
 use Rattle.wh_run_page.specs.Tasks.{closed_by, groups_from, groups_of, next_group, events_of, line_if, lines_of, task_of, task_at, tasks_of}
 
 -- the groups after one so far and these numbers
@@ -135,13 +134,12 @@ lines-of-tasks view times fault (group ∷ groups) =
     ap (λ rest. lines_of view fault (events_of view.events group) ++ rest) (lines-of-tasks view times fault groups)
 
 pub lines_are_all_events : LinesAreAllEvents
-unfolding timed_page count_of
-lines_are_all_events view said page own alike =
+unfolding count_of
+lines_are_all_events view said alike =
     let times = times_of view.events in
     let groups = groups_of view.tasks in
     let runs = groups_are_runs view.tasks in
     let all : length view.events ≤ count_of groups = let e = ap length runs.all in omega arith in
-    ap (λ one. flat_map (λ task. task.lines) one.tasks) own.is
-    ∙ lines-of-tasks view times said.place groups
+    lines-of-tasks view times said.place groups
     ∙ lines-joined view said.place view.events groups
     ∙ ap (lines_of view said.place) (joined view.events groups 0 runs.follow ∙ take_all (count_of groups) view.events all)

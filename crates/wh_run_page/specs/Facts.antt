@@ -21,7 +21,7 @@ last_time times = get_or times (length times - 1) 0
 
 -- when a run started, as text
 abbrev pub started : List ℕ → List ℕ
-started times = stamp_text (get_or times 0 0) ++ codes " UTC"
+started times = stamp_text (get_or times 0 0)
 
 -- how long it lasted, as text
 abbrev pub lasted : List ℕ → List ℕ
@@ -39,7 +39,7 @@ parent_text (c ∷ cs) = c ∷ cs
 
 -- the event that closes a run, and when
 abbrev pub closing_at : Moment → List ℕ
-closing_at moment = codes " by event " ++ (decimal moment.event ++ (codes ", " ++ (stamp_text moment.millis ++ codes " UTC")))
+closing_at moment = codes " by event " ++ (decimal moment.event ++ (codes ", " ++ stamp_text moment.millis))
 
 abbrev pub closing_words : List ℕ → Option ViewedEvent → List ℕ
 closing_words times None = []

@@ -25,7 +25,7 @@ use Rattle.wh_view_report.specs.Subjects.{marker_words}
 use Rattle.wh_run_page.specs.declared.rows.PlacedThing.{PlacedThing}
 use Rattle.wh_run_page.specs.Moments.{event_at, moment_of, moment_or}
 use Rattle.wh_run_page.specs.Causes.{reason, ending_words}
-use Rattle.wh_run_page.specs.Words.{marker_notes, span_text}
+use Rattle.wh_run_page.specs.Words.{known_span, marker_notes}
 
 -- the kind of a lane
 abbrev pub lane_kind : ThingKind → Kind
@@ -183,8 +183,8 @@ lane_of view times placed =
       started = option_map (moment_of times) starting;
       cancelling = cancelling;
       ended = option_map (moment_of times) (event_at view.events (later_end thing));
-      waited = span_text (queue_time view thing);
-      took = span_text (time_told view thing);
+      waited = known_span (queue_time view thing);
+      took = known_span (time_told view thing);
       outcome = outcome_at ending;
       words = outcome_words ending cancelling;
       attempts = attempt_at starting;

@@ -1,18 +1,21 @@
 -- What holds of every page of a run.
-use Rattle.std.specs.Prelude.{◌≡◌, ◌≢◌, ◌⊎◌, ◌||◌, ℕ, ◌+◌, ◌<◌, ◌≤◌, nat_le, min, Bool, true, false, Option, List, [], ◌∷◌, length, replicate, count_by, All, Contains}
+use Rattle.std.specs.Prelude.{◌≡◌, ◌≢◌, ◌⊎◌, ◌||◌, ℕ, ◌+◌, ◌-◌, ◌<◌, ◌≤◌, nat_le, min, Bool, true, false, Option, None, List, [], ◌∷◌, length, take, drop, replicate, count_by, All, Contains}
 use Rattle.std.specs.List.{flat_map, list_any, sum_by}
+use Rattle.wh_view.specs.Runs.{status_of}
+use Rattle.wh_view.specs.declared.view.RunStatus.TheVariants.{Running}
 use Rattle.wh_view.specs.declared.view.View.{View}
 use Rattle.wh_view.specs.declared.view.ViewedThing.{ViewedThing}
 use Rattle.wh_run_page.specs.declared.said.Said.{Said}
 use Rattle.wh_run_page.specs.declared.tasks.Group.{Group}
 use Rattle.wh_html.specs.declared.page.Page.{Page}
+use Rattle.wh_html.specs.declared.page.Task.{Task}
 use Rattle.wh_html.specs.declared.page.RowPart.{RowPart}
 use Rattle.wh_html.specs.declared.page.RowPart.TheVariants.{Alone, First, Later}
 use Rattle.wh_run_page.specs.Choices.{is_hit, time_until}
 use Rattle.wh_run_page.specs.Moments.{index_at, times_of}
 use Rattle.wh_run_page.specs.Pages.{IsPageOf}
 use Rattle.wh_run_page.specs.Rows.{is_failed, is_open, outcome_of}
-use Rattle.wh_run_page.specs.Tasks.{groups_of, lines_of}
+use Rattle.wh_run_page.specs.Tasks.{groups_of, lines_of, tasks_of}
 
 -- groups written out: the number of the task of each, once for each of its events
 abbrev pub written_out : List Group → List ℕ
@@ -43,11 +46,32 @@ pub record AreRuns (numbers : List ℕ) (groups : List Group) : Type 0 where
 abbrev pub GroupsAreRuns : Type 0
 GroupsAreRuns = (numbers : List ℕ) → AreRuns numbers (groups_of numbers)
 
+-- the tasks of a run, before any is left out of its page
+abbrev pub all_tasks : View → Said → List Task
+all_tasks view said = tasks_of view (times_of view.events) said.place
+
 -- if the view has a task for each event, the lines of all tasks are those of all events
 abbrev pub LinesAreAllEvents : Type 0
 LinesAreAllEvents =
-    (view : View) (said : Said) (page : Page) → IsPageOf view said page → length view.tasks ≡ length view.events
-    → flat_map (λ task. task.lines) page.tasks ≡ lines_of view said.place view.events
+    (view : View) (said : Said) → length view.tasks ≡ length view.events
+    → flat_map (λ task. task.lines) (all_tasks view said) ≡ lines_of view said.place view.events
+
+-- a page shows 300 tasks at most, which stand one after the other in the run, and counts those before them and all
+abbrev pub TasksAreInARow : Type 0
+TasksAreInARow =
+    (view : View) (said : Said) (page : Page) → IsPageOf view said page
+    → (page.tasks ≡ take 300 (drop page.earlier (all_tasks view said))) × (page.all_tasks ≡ length (all_tasks view said))
+
+-- if nothing is at fault, the page of an open run shows its last tasks, and that of a closed one its first
+abbrev pub EndsAreShown : Type 0
+EndsAreShown =
+    (view : View) (said : Said) (page : Page) → IsPageOf view said page → page.fault ≡ None
+    → status_of view.events ≡ Running → page.tasks ≡ drop (length (all_tasks view said) - 300) (all_tasks view said)
+
+abbrev pub BeginningsAreShown : Type 0
+BeginningsAreShown =
+    (view : View) (said : Said) (page : Page) → IsPageOf view said page → page.fault ≡ None
+    → status_of view.events ≢ Running → page.tasks ≡ take 300 (all_tasks view said)
 
 -- a page shows all things, or just 300 of more
 abbrev pub ThingsAreAsManyAsFit : Type 0

@@ -10,10 +10,10 @@ use Rattle.wh_view.specs.Lookups.{event_type, thing_of}
 use Rattle.wh_view.specs.declared.view.View.{View}
 use Rattle.wh_view.specs.declared.view.ViewedEvent.{ViewedEvent}
 use Rattle.wh_view.specs.declared.view.ViewedThing.{ViewedThing}
-use Rattle.wh_view_report.specs.Spans.{span_text_of}
+use Rattle.wh_html.specs.Times.{span_text}
 use Rattle.wh_run_page.specs.Lanes.{lane_kind}
 use Rattle.wh_run_page.specs.Moments.{event_at, number_of}
-use Rattle.wh_run_page.specs.Words.{after_label, span_text}
+use Rattle.wh_run_page.specs.Words.{after_label, known_span}
 
 -- the kind of the thing of an event, if it has one
 abbrev pub kind_of : Option ViewedThing → List ℕ
@@ -35,7 +35,7 @@ median_of (Some lengths) = Some lengths.median
 -- the longest time with the event that opened what took so long, if there is such an event
 abbrev pub longest_by : (millis : ℕ) → Option ViewedEvent → Option Longest
 longest_by millis None = None
-longest_by millis (Some event) = Some (record { words = span_text_of millis; event = number_of event })
+longest_by millis (Some event) = Some (record { words = span_text millis; event = number_of event })
 
 abbrev pub longest_in : View → Lengths → Option Longest
 longest_in view lengths = longest_by lengths.slowest.millis (event_at view.events (Some lengths.slowest.opened))
@@ -53,7 +53,7 @@ sum_of view sum event =
       times = sum.times;
       failed = sum.failed;
       pending = sum.still_open;
-      median = span_text (median_of sum.lengths);
+      median = known_span (median_of sum.lengths);
       longest = longest_of view sum.lengths;
     }
 

@@ -1,15 +1,20 @@
 -- The workflow tasks of a run, as those of its page.
 use Rattle.std.specs.Prelude.{ℕ, ◌+◌, ◌==◌, ◌&&◌, Bool, true, false, not, if◌then◌else◌, Option, Some, None, List, [], ◌∷◌, ◌++◌, map, take, drop, slice_get}
 use Rattle.std.specs.List.{flat_map, list_any}
+use Rattle.wh_html.specs.Views.{first_shown, shown}
+use Rattle.wh_html.specs.declared.page.Moment.{Moment}
 use Rattle.wh_html.specs.declared.page.TaskLine.{TaskLine}
 use Rattle.wh_html.specs.declared.page.Task.{Task}
 use Rattle.wh_html.specs.declared.page.Side.{Side}
 use Rattle.wh_html.specs.declared.page.Side.TheVariants as sides
 use Rattle.wh_view.specs.declared.parts.EventUse.{EventUse}
 use Rattle.wh_view.specs.declared.parts.EventUse.TheVariants as words
+use Rattle.wh_view.specs.declared.view.RunStatus.{RunStatus}
+use Rattle.wh_view.specs.declared.view.RunStatus.TheVariants.{Running}
 use Rattle.wh_view.specs.declared.view.View.{View}
 use Rattle.wh_view.specs.declared.view.ViewedEvent.{ViewedEvent}
 use Rattle.wh_view.specs.Parts.{word_of}
+use Rattle.wh_view.specs.Runs.{status_of}
 use Rattle.wh_view_report.specs.Texts.{is_quiet}
 use Rattle.wh_run_page.specs.declared.headings.Sought.TheVariants.{Start}
 use Rattle.wh_run_page.specs.Headings.{first_like, heading}
@@ -106,3 +111,21 @@ task_at view times fault group = task_of view times fault group.number (events_o
 -- the tasks of a run: adjacent events that belong to one task are together
 abbrev pub tasks_of : View → List ℕ → Option ℕ → List Task
 tasks_of view times fault = map (task_at view times fault) (groups_of view.tasks)
+
+-- the run is open
+abbrev pub is_running : RunStatus → Bool
+is_running Running = true
+is_running _ = false
+
+-- the moment at which the task of a group starts
+abbrev pub start_at : View → List ℕ → Group → Moment
+start_at view times group = moment_or times (start_of (events_of view.events group))
+
+-- how many tasks are left out before those that the page shows, by the moment of the fault
+abbrev pub earlier_of : View → List ℕ → Option Moment → ℕ
+earlier_of view times fault =
+    first_shown (map (start_at view times) (groups_of view.tasks)) fault (is_running (status_of view.events))
+
+-- the tasks that the page shows, by the place and the moment of the fault
+abbrev pub shown_tasks : View → List ℕ → (place : Option ℕ) → Option Moment → List Task
+shown_tasks view times place fault = shown (earlier_of view times fault) (tasks_of view times place)

@@ -1,7 +1,7 @@
 -- Texts of which those of a page are made.
 use Rattle.std.specs.Prelude.{ℕ, Option, List, [], ◌∷◌, ◌++◌, codes, option_map}
 use Rattle.wh_markers.specs.declared.markers.RecordedMarker.{RecordedMarker}
-use Rattle.wh_view_report.specs.Spans.{span_text_of}
+use Rattle.wh_html.specs.Times.{span_text}
 use Rattle.wh_view_report.specs.Subjects.{deprecated_text, tries_by}
 
 -- a text after a label; nothing if the text is empty
@@ -15,8 +15,8 @@ thing_text [] id = after_label (codes " ") id
 thing_text (c ∷ cs) id = codes " " ++ (c ∷ cs ++ after_label (codes " #") id)
 
 -- a length of time in words, if it is known
-abbrev pub span_text : (millis : Option ℕ) → Option (List ℕ)
-span_text millis = option_map span_text_of millis
+abbrev pub known_span : (millis : Option ℕ) → Option (List ℕ)
+known_span millis = option_map span_text millis
 
 -- what else is noted of a marker: the attempt of a local activity, and that a patch is deprecated
 abbrev pub marker_notes : RecordedMarker → List ℕ

@@ -9,7 +9,7 @@ use crate::words::copy_text;
 use std::alloc::Global;
 use std::fmt;
 use wh_events::{OutOfMemory, Text};
-use wh_html::{Fact, Stamp, TimeSpan};
+use wh_html::{Fact, SpanText, Stamp};
 use wh_view::View;
 use wh_view_report::{completed_count, mark_of, status_word, workflow_type};
 
@@ -52,14 +52,14 @@ fn start_text(alloc: Global, times: &[u64]) -> Result<Text, OutOfMemory>
     ensures { IfOk result (λ text. text ≡ facts.started times.now) }
 {
     let first = Stamp(first_time(times));
-    Ok(Text::new(format!(in alloc; "{first} UTC")?))
+    Ok(Text::new(format!(in alloc; "{first}")?))
 }
 
 /// Returns how long a run lasted, as text.
 fn duration_text(alloc: Global, times: &[u64]) -> Result<Text, OutOfMemory>
     ensures { IfOk result (λ text. text ≡ facts.lasted times.now) }
 {
-    let span = TimeSpan(last_time(times).saturating_sub(first_time(times)));
+    let span = SpanText(last_time(times).saturating_sub(first_time(times)));
     Ok(Text::new(format!(in alloc; "{span}")?))
 }
 
@@ -103,7 +103,7 @@ impl fmt::Display for ClosingWords<'_> {
                 let moment = moment_of(self.1, event);
                 let number = moment.event;
                 let time = Stamp(moment.millis);
-                write!(f, " by event {number}, {time} UTC")
+                write!(f, " by event {number}, {time}")
             }
             None => Ok(()),
         }

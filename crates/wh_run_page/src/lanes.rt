@@ -7,7 +7,7 @@ ghost use Rattle.wh_view_report.specs.Spans.{time_taken};
 use crate::causes::{EndingWords, Reason};
 use crate::moments::{event_at, moment_if, moment_or};
 use crate::rows::PlacedThing;
-use crate::words::{MarkerNotes, copy_text, span_text};
+use crate::words::{MarkerNotes, copy_text, known_span};
 use std::alloc::Global;
 use std::fmt;
 use wh_events::{EventKind, OutOfMemory, Text};
@@ -307,8 +307,8 @@ fn lane_of(
     let type_name = text_if(alloc, type_at(opening))?;
     let cancelling = moment_if(times, event_at(events, thing.cancelling));
     let words = outcome_words(alloc, ending, cancelling)?;
-    let waited = span_text(alloc, view.queue_time(thing))?;
-    let took = span_text(alloc, time_told(view, thing))?;
+    let waited = known_span(alloc, view.queue_time(thing))?;
+    let took = known_span(alloc, time_told(view, thing))?;
     Ok(Lane {
         kind: lane_kind(thing.kind),
         name,

@@ -10,7 +10,7 @@ use crate::moments::{event_at, index_at, moment_if, times_of};
 use crate::rows::{firsts_of, placed_things, row_count};
 use crate::said::Said;
 use crate::sums::sums_of;
-use crate::tasks::tasks_of;
+use crate::tasks::shown_tasks;
 use crate::waits::waits_of;
 use std::alloc::Global;
 use wh_events::{Items, OutOfMemory};
@@ -34,9 +34,9 @@ fn timed_page(
     let placed = placed_things(alloc, view, shown, firsts.as_slice())?;
     let lanes = Items::new(lanes_of(alloc, view, times, placed.as_slice())?);
     let sums = Items::new(sums_of(alloc, view)?);
-    let tasks = Items::new(tasks_of(alloc, view, times, said.place)?);
-    let notes = Items::new(notes_of(alloc, view, said.note)?);
     let fault = moment_if(times, event_at(view.events.get(), index_at(said.place)));
+    let tasks = shown_tasks(alloc, view, times, said.place, fault)?;
+    let notes = Items::new(notes_of(alloc, view, said.note)?);
     Ok(Page {
         title: said.title,
         verdict: said.verdict,
@@ -49,7 +49,9 @@ fn timed_page(
         rows: row_count(firsts.as_slice()),
         things: view.things.get().len(),
         sums,
-        tasks,
+        tasks: tasks.tasks,
+        earlier: tasks.earlier,
+        all_tasks: tasks.total,
         notes,
     })
 }
@@ -69,9 +71,11 @@ fn timed_page(
 /// the run opened, how many of these have a lane, how many failed and how many are open. The page
 /// has the sums of the view, of each type the count, the median of the times, and the longest with
 /// its event.
-/// Adjacent events that belong to one task are one task of the page. Each of them has a line,
-/// except `WorkflowTaskScheduled` and `WorkflowTaskStarted`; the sides of the lines separate
-/// activation jobs, commands, and what else is recorded. The event of the fault always has a line,
+/// Adjacent events that belong to one task are one task. Of more than 300 tasks those around the
+/// event of the fault are shown, or else the last ones of an open run and the first ones of a
+/// closed one. Each event of a task that is shown has a line, except `WorkflowTaskScheduled` and
+/// `WorkflowTaskStarted`; the sides of the lines separate activation jobs, commands, and what else
+/// is recorded. The event of the fault always has a line,
 /// with `Side::Fault`. An event is shown with its number, or with its place if it has no number or
 /// one that does not follow the number before. An event without a time has that of the event
 /// before. The line of an event that tells of a failure has its causes, and their stack traces. If

@@ -6,13 +6,12 @@ ghost use Rattle.wh_run_page.specs.Sums as sums;
 
 use crate::lanes::lane_kind;
 use crate::moments::{event_at, number_of};
-use crate::words::{AfterLabel, span_text};
+use crate::words::{AfterLabel, known_span};
 use std::alloc::Global;
 use std::fmt;
 use wh_events::{OutOfMemory, Text};
-use wh_html::{Longest, SumOfType};
+use wh_html::{Longest, SpanText, SumOfType};
 use wh_view::{Lengths, TypeSum, View, ViewedEvent};
-use wh_view_report::SpanText;
 
 /// Returns the kind of the thing of an event, in a word; empty if it has none.
 fn kind_at(view: &View, event: &ViewedEvent) -> &'static str
@@ -91,7 +90,7 @@ fn sum_of(
 {
     let name = SumName(view, event);
     let name = Text::new(format!(in alloc; "{name}")?);
-    let median = span_text(alloc, median_of(sum.lengths))?;
+    let median = known_span(alloc, median_of(sum.lengths))?;
     let longest = longest_of(alloc, view, sum.lengths)?;
     Ok(SumOfType {
         name,

@@ -1,8 +1,10 @@
 //! The workflow tasks of a run, as those of its page.
 
-ghost use Rattle.std.specs.Prelude.{◌≡◌, ◌+◌, ◌<◌, ◌^◌, ◌++◌, IfOk, OnOk, map, option_map};
+ghost use Rattle.std.specs.Prelude.{◌≡◌, ◌+◌, ◌<◌, ◌≤◌, ◌^◌, ◌++◌, IfOk, OnOk, length, map, option_map};
 ghost use Rattle.std.specs.List.{list_any};
+ghost use Rattle.wh_html.specs.Views.{first_shown};
 ghost use Rattle.wh_run_page.specs.Tasks as tasks;
+ghost use Rattle.wh_view.specs.Runs.{status_of};
 
 use crate::causes::traces_of;
 use crate::event_words::event_words;
@@ -10,8 +12,8 @@ use crate::headings::{Sought, first_like, heading};
 use crate::moments::{moment_or, number_of};
 use std::alloc::Global;
 use wh_events::{Items, OutOfMemory};
-use wh_html::{Side, Task, TaskLine, first_items};
-use wh_view::{EventUse, View, ViewedEvent};
+use wh_html::{Moment, Side, Task, TaskLine, first_items, first_shown, shown_items};
+use wh_view::{EventUse, RunStatus, View, ViewedEvent};
 use wh_view_report::is_quiet;
 
 /// Adjacent events that belong to one task.
@@ -264,15 +266,83 @@ fn tasks_in(
     Ok(all)
 }
 
-/// Returns the tasks of a run.
-pub(crate) fn tasks_of(
+/// Returns whether a run is open.
+fn is_running(status: RunStatus) -> bool
+    ensures { result ≡ tasks.is_running status }
+{
+    matches!(status, RunStatus::Running)
+}
+
+/// Returns the moment at which the task of a group starts.
+fn start_at(view: &View, times: &[u64], group: Group) -> Moment
+    ensures { result ≡ tasks.start_at view.now times.now group }
+{
+    moment_or(times, start_of(events_of(view.events.get(), group)))
+}
+
+/// Returns the moments at which the tasks of groups start.
+fn starts_of(
     alloc: Global,
     view: &View,
     times: &[u64],
-    fault: Option<u64>,
-) -> Result<Vec<Task>, OutOfMemory>
-    ensures { IfOk result (λ all. all.items ≡ tasks.tasks_of view.now times.now fault) }
+    groups: &[Group],
+) -> Result<Vec<Moment>, OutOfMemory>
+    ensures { IfOk result (λ starts. starts.items ≡ map (tasks.start_at view.now times.now) groups.now) }
+{
+    let mut starts = Vec::new(alloc);
+    for group in groups {
+        starts.push(start_at(view, times, *group))?;
+    }
+    Ok(starts)
+}
+
+/// Returns how many tasks are left out before those that the page shows, if these are all groups.
+fn earlier_of(
+    alloc: Global,
+    view: &View,
+    times: &[u64],
+    groups: &[Group],
+    fault: Option<Moment>,
+) -> Result<usize, OutOfMemory>
+    ensures index { let starts = map (tasks.start_at view.now times.now) groups.now in
+        IfOk result (λ earlier. earlier ≡ first_shown starts fault (tasks.is_running (status_of view.now.events))) }
+    ensures within { IfOk result (λ earlier. earlier ≤ length groups.now) }
+{
+    let starts = starts_of(alloc, view, times, groups)?;
+    Ok(first_shown(starts.as_slice(), fault, is_running(view.status())))
+}
+
+/// The tasks of a run that its page shows.
+#[derive(Drop)]
+pub(crate) struct ShownTasks {
+    /// The tasks.
+    pub(crate) tasks: Items<Task>,
+    /// How many are left out before them.
+    pub(crate) earlier: usize,
+    /// How many the run has in all.
+    pub(crate) total: usize,
+}
+
+/// Returns the tasks of a run that its page shows, by the place and the moment of the fault.
+#[tactic(auto, using(crate::proofs::Few::shown_map))]
+pub(crate) fn shown_tasks(
+    alloc: Global,
+    view: &View,
+    times: &[u64],
+    place: Option<u64>,
+    fault: Option<Moment>,
+) -> Result<ShownTasks, OutOfMemory>
+    ensures tasks { IfOk result (λ all. all.tasks ≡ tasks.shown_tasks view.now times.now place fault) }
+    ensures earlier { IfOk result (λ all. all.earlier ≡ tasks.earlier_of view.now times.now fault) }
+    ensures total { IfOk result (λ all. all.total ≡ length (tasks.groups_of view.now.tasks)) }
 {
     let groups = groups_of(alloc, view.tasks.get())?;
-    tasks_in(alloc, view, times, fault, groups.as_slice())
+    let earlier = earlier_of(alloc, view, times, groups.as_slice(), fault)?;
+    let shown = shown_items(groups.as_slice(), earlier);
+    let tasks = Items::new(tasks_in(alloc, view, times, place, shown)?);
+    Ok(ShownTasks {
+        tasks,
+        earlier,
+        total: groups.len(),
+    })
 }

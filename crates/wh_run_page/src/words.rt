@@ -7,8 +7,9 @@ ghost use Rattle.wh_view.specs.Lookups.{event_id, event_type};
 use std::alloc::Global;
 use std::fmt;
 use wh_events::{OutOfMemory, Text};
+use wh_html::SpanText;
 use wh_view::{RecordedMarker, ViewedEvent};
-use wh_view_report::{DeprecatedText, SpanText, Tries};
+use wh_view_report::{DeprecatedText, Tries};
 
 /// A text after a label; nothing if the text is empty.
 #[derive(Drop)]
@@ -46,8 +47,8 @@ impl fmt::Display for ThingWords<'_> {
 }
 
 /// Returns a length of time in milliseconds in words, if it is known.
-pub(crate) fn span_text(alloc: Global, millis: Option<u64>) -> Result<Option<Text>, OutOfMemory>
-    ensures { IfOk result (λ text. text ≡ words.span_text millis) }
+pub(crate) fn known_span(alloc: Global, millis: Option<u64>) -> Result<Option<Text>, OutOfMemory>
+    ensures { IfOk result (λ text. text ≡ words.known_span millis) }
 {
     match millis {
         Some(millis) => {

@@ -31,4 +31,4 @@ seconds_member key (Some millis) =
 -- when something is due, as a further member of an object
 abbrev pub until_member : Option ℕ → List ℕ
 until_member None = []
-until_member (Some millis) = codes ",\"until\":\"" ++ (stamp_text millis ++ codes "Z\"")
+until_member (Some millis) = codes ",\"until\":\"" ++ (stamp_text millis ++ codes "\"")

@@ -105,7 +105,7 @@ impl fmt::Display for UntilMember {
         match self.0 {
             Some(millis) => {
                 let stamp = Stamp(millis);
-                write!(f, ",\"until\":\"{stamp}Z\"")
+                write!(f, ",\"until\":\"{stamp}\"")
             }
             None => Ok(()),
         }

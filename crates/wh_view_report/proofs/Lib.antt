@@ -1,4 +1,6 @@
 pub mod Fronts
+mod Likening
 mod Numbered
 mod Plain
 mod Parts
+mod Repeating

@@ -15,6 +15,7 @@ use Rattle.wh_view.specs.declared.view.ViewedEvent.{ViewedEvent}
 use Rattle.wh_view_report.specs.Alike.{alike_tasks}
 use Rattle.wh_view_report.specs.Folding.{Task, Part, events_of, fold_text, folded_part, part_events, part_text, parts_from, parts_of, parts_text, repeats, split_from, task_text, tasks_in}
 use Rattle.wh_view_report.specs.Folding.Part.{Shown, Folded}
+use Rattle.wh_view_report.specs.Laws.{PartsHaveAllEvents, PartsHaveAllTasks, part_tasks, tasks_of}
 use Rattle.wh_view_report.specs.Private.Folds.{AreInOrder, belongs, fold_with, ranges, text_unless}
 use Rattle.wh_view_report.specs.declared.begins.Begins.{Begins}
 use Rattle.wh_view_report.specs.declared.folding.Fold.{Fold}
@@ -114,7 +115,7 @@ like_none view (event ∷ events) some = refl
 -- ---- the parts of tasks
 
 -- the parts of tasks, by whether the first one repeats one before it
-parts_at : (view : View) (before folded tasks : List Task) (task : Task) (t : Bool) → repeats view before task ≡ t
+pub parts_at : (view : View) (before folded tasks : List Task) (task : Task) (t : Bool) → repeats view before task ≡ t
     → parts_from view before folded (task ∷ tasks) ≡ cond t (parts_from view (task ∷ before) (folded ++ task ∷ []) tasks) (folded_part folded ++ (Shown task ∷ parts_from view (task ∷ before) [] tasks))
 unfolding parts_from
 parts_at view before folded tasks task t is =
@@ -297,28 +298,37 @@ tasks_whole : (view : View) (events : List ViewedEvent) → events_of (tasks_in 
 tasks_whole view [] = refl
 tasks_whole view (event ∷ events) = split_whole view (task_of view event) (event ∷ []) events
 
-folded_whole : (folded : List Task) → flat_map part_events (folded_part folded) ≡ events_of folded
-folded_whole [] = refl
-folded_whole (task ∷ tasks) = append-nil (events_of (task ∷ tasks))
+folded_tasks : (folded : List Task) → tasks_of (folded_part folded) ≡ folded
+folded_tasks [] = refl
+folded_tasks (task ∷ tasks) = append-nil (task ∷ tasks)
 
-parts_whole : (view : View) (before folded tasks : List Task) → flat_map part_events (parts_from view before folded tasks) ≡ events_of folded ++ events_of tasks
+pub with_folded : (done : List Part) (folded : List Task) → tasks_of (done ++ folded_part folded) ≡ tasks_of done ++ folded
+with_folded done folded = flat_map-append part_tasks done (folded_part folded) ∙ ap (λ l. tasks_of done ++ l) (folded_tasks folded)
+
+tasks_from : (view : View) (before folded rest : List Task) → tasks_of (parts_from view before folded rest) ≡ folded ++ rest
 unfolding parts_from
-parts_whole view before folded [] = folded_whole folded ∙ sym (append-nil (events_of folded))
-parts_whole view before folded (task ∷ tasks) =
-    by (repeats view before task) refl (parts_whole view (task ∷ before) (folded ++ task ∷ []) tasks) (parts_whole view (task ∷ before) [] tasks)
+tasks_from view before folded [] = folded_tasks folded ∙ sym (append-nil folded)
+tasks_from view before folded (task ∷ rest) =
+    by (repeats view before task) refl (tasks_from view (task ∷ before) (folded ++ task ∷ []) rest) (tasks_from view (task ∷ before) [] rest)
   where
     by : (t : Bool) → repeats view before task ≡ t
-        → flat_map part_events (parts_from view (task ∷ before) (folded ++ task ∷ []) tasks) ≡ events_of (folded ++ task ∷ []) ++ events_of tasks
-        → flat_map part_events (parts_from view (task ∷ before) [] tasks) ≡ events_of tasks
-        → flat_map part_events (parts_from view before folded (task ∷ tasks)) ≡ events_of folded ++ (task ++ events_of tasks)
-    by true is more other =
-        ap (flat_map part_events) (parts_at view before folded tasks task true is)
-        ∙ (more ∙ (ap (λ l. l ++ events_of tasks) (events-append folded task) ∙ append_assoc (events_of folded) task (events_of tasks)))
+        → tasks_of (parts_from view (task ∷ before) (folded ++ task ∷ []) rest) ≡ (folded ++ task ∷ []) ++ rest
+        → tasks_of (parts_from view (task ∷ before) [] rest) ≡ rest
+        → tasks_of (parts_from view before folded (task ∷ rest)) ≡ folded ++ task ∷ rest
+    by true is more other = ap tasks_of (parts_at view before folded rest task true is) ∙ (more ∙ append_assoc folded (task ∷ []) rest)
     by false is more other =
-        ap (flat_map part_events) (parts_at view before folded tasks task false is)
-        ∙ (flat_map-append part_events (folded_part folded) (Shown task ∷ parts_from view (task ∷ before) [] tasks)
-        ∙ (ap (λ l. l ++ (task ++ flat_map part_events (parts_from view (task ∷ before) [] tasks))) (folded_whole folded)
-        ∙ ap (λ l. events_of folded ++ (task ++ l)) other))
+        let after = parts_from view (task ∷ before) [] rest in
+        ap tasks_of (parts_at view before folded rest task false is)
+        ∙ (flat_map-append part_tasks (folded_part folded) (Shown task ∷ after)
+        ∙ (ap (λ l. l ++ task ∷ tasks_of after) (folded_tasks folded) ∙ ap (λ l. folded ++ task ∷ l) other))
 
-pub parts_have_all_events : (view : View) → flat_map part_events (parts_of view) ≡ view.events
-parts_have_all_events view = parts_whole view [] [] (tasks_in view view.events) ∙ tasks_whole view view.events
+pub parts_have_all_tasks : PartsHaveAllTasks
+parts_have_all_tasks view = tasks_from view [] [] (tasks_in view view.events)
+
+events_in : (parts : List Part) → flat_map part_events parts ≡ events_of (tasks_of parts)
+events_in [] = refl
+events_in (Shown task ∷ parts) = ap (λ l. task ++ l) (events_in parts)
+events_in (Folded tasks ∷ parts) = ap (λ l. events_of tasks ++ l) (events_in parts) ∙ sym (flat_map-append (λ t. t) tasks (tasks_of parts))
+
+pub parts_have_all_events : PartsHaveAllEvents
+parts_have_all_events view = events_in (parts_of view) ∙ (ap events_of (parts_have_all_tasks view) ∙ tasks_whole view view.events)

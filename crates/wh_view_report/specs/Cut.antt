@@ -1,21 +1,16 @@
 -- Texts as reports show them: cut after 80 characters.
-use Rattle.std.specs.Prelude.{ℕ, ◌==◌, ◌&&◌, ◌||◌, Bool, List, [], ◌∷◌, ◌++◌, take, length, codes, decimal, encode_utf8, nat_le, nat_lt, if◌then◌else◌}
+use Rattle.std.specs.Prelude.{ℕ, ◌==◌, ◌||◌, Bool, List, [], ◌∷◌, ◌++◌, take, length, codes, decimal, encode_utf8, nat_lt, if◌then◌else◌}
 use Rattle.std.specs.List.{flat_map}
 use Rattle.std.specs.Str.{chars}
+use Rattle.wh_html.specs.Escaping.{is_unseen}
 
--- the character is from one to the other
-abbrev pub is_within : ℕ → ℕ → ℕ → Bool
-is_within first last c = nat_le first c && nat_le c last
+-- a character is not shown: a control character of ASCII, or another one that would not be seen
+abbrev pub is_hidden : ℕ → Bool
+is_hidden c = nat_lt c 32 || c == 127 || is_unseen c
 
--- the character would not be seen as what it is: a control character, or one that changes the direction of writing
-abbrev pub is_unseen : ℕ → Bool
-is_unseen c =
-    is_within 0 0x1f c || (is_within 0x7f 0x9f c || (is_within 0x200e 0x200f c || (is_within 0x2028 0x202e c
-    || (is_within 0x2066 0x2069 c || (c == 0x61c || c == 0xfeff)))))
-
--- a character as it is shown: a question mark for one that would not be seen
+-- a character as it is shown: a question mark for one that is not
 abbrev pub shown_char : ℕ → ℕ
-shown_char c = if is_unseen c then 63 else c
+shown_char c = if is_hidden c then 63 else c
 
 -- its bytes
 abbrev pub shown_bytes : ℕ → List ℕ

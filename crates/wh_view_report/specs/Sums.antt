@@ -7,7 +7,7 @@ use Rattle.wh_view.specs.declared.view.View.{View}
 use Rattle.wh_view.specs.declared.view.ViewedEvent.{ViewedEvent}
 use Rattle.wh_view.specs.declared.view.ViewedThing.{ViewedThing}
 use Rattle.wh_view_report.specs.Cut.{label_text}
-use Rattle.wh_view_report.specs.Spans.{span_text_of}
+use Rattle.wh_html.specs.Times.{span_text}
 use Rattle.wh_view_report.specs.Waits.{kind_text}
 use Rattle.wh_view_report.specs.Words.{reference_text}
 
@@ -19,7 +19,7 @@ count_text count word = if count == 0 then [] else codes ", " ++ (decimal count 
 abbrev pub lengths_text : View → Option Lengths → List ℕ
 lengths_text view None = []
 lengths_text view (Some lengths) =
-    codes ", median " ++ (span_text_of lengths.median ++ (codes ", longest " ++ (span_text_of lengths.slowest.millis
+    codes ", median " ++ (span_text lengths.median ++ (codes ", longest " ++ (span_text lengths.slowest.millis
     ++ reference_text (codes " ") view (Some lengths.slowest.opened))))
 
 -- the kind of the thing of an event, if it has one

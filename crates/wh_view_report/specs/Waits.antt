@@ -32,7 +32,7 @@ kind_text kinds.Marker = codes "marker"
 -- when something is due, if that is known
 abbrev pub until_text : Option ℕ → List ℕ
 until_text None = []
-until_text (Some millis) = codes " until " ++ (stamp_text millis ++ codes " UTC")
+until_text (Some millis) = codes " until " ++ stamp_text millis
 
 -- the event that says that something has started
 abbrev pub start_at : Option ViewedEvent → List ℕ

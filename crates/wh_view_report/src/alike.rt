@@ -8,7 +8,7 @@ use crate::digits::alike_texts;
 use crate::subjects::marker_words;
 use crate::words::told_mark;
 use wh_events::EventKind;
-use wh_markers::RecordedMarker;
+use wh_markers::{MarkerKind, RecordedMarker};
 use wh_view::{Ending, View, ViewedEvent, ViewedFailure, ViewedThing};
 
 /// Returns the name of the signal or the marker that an event of the kind brings; empty for another
@@ -24,24 +24,33 @@ fn name_by(kind: &Option<EventKind>) -> &str
 }
 
 /// Returns whether two events have the same type, bring the same signal or marker, and are about
-/// things of the same type, except for digits.
+/// things of the same type.
 fn alike_names(view: &View, one: &ViewedEvent, other: &ViewedEvent) -> bool
     ensures { result ≡ alike.alike_names view.now one.now other.now }
 {
-    alike_texts(one.name(), other.name())
-        && alike_texts(name_by(&one.read.kind), name_by(&other.read.kind))
-        && alike_texts(
-            view.opening_of(one).type_name(),
-            view.opening_of(other).type_name(),
-        )
+    one.name() == other.name()
+        && name_by(&one.read.kind) == name_by(&other.read.kind)
+        && view.opening_of(one).type_name() == view.opening_of(other).type_name()
 }
 
-/// Returns whether two markers record the same, but for an attempt or a version.
+/// Returns the type, name or id that markers of the kind must share to be alike: none of a side
+/// effect, whose id counts the side effects of its run.
+fn shared_name(marker: &RecordedMarker) -> &str
+    ensures { result.now ≡ alike.shared_name marker.now.kind marker.now.name }
+{
+    match marker.kind {
+        MarkerKind::SideEffect => "",
+        _ => marker.name.get(),
+    }
+}
+
+/// Returns whether two markers record the same, but for the id of a side effect, an attempt or a
+/// version.
 fn alike_markers(one: &RecordedMarker, other: &RecordedMarker) -> bool
     ensures { result ≡ alike.alike_markers one.now other.now }
 {
-    alike_texts(marker_words(one.kind), marker_words(other.kind))
-        && alike_texts(one.name.get(), other.name.get())
+    marker_words(one.kind) == marker_words(other.kind)
+        && shared_name(one) == shared_name(other)
         && one.deprecated == other.deprecated
 }
 
@@ -66,12 +75,11 @@ fn alike_things(one: Option<ViewedThing>, other: Option<ViewedThing>) -> bool
     }
 }
 
-/// Returns whether two failures have the same type and the same message, except for digits.
+/// Returns whether two failures have the same type and, except for digits, the same message.
 fn alike_failure(one: &ViewedFailure, other: &ViewedFailure) -> bool
     ensures { result ≡ alike.alike_failure one.now other.now }
 {
-    alike_texts(one.kind.get(), other.kind.get())
-        && alike_texts(one.message.get(), other.message.get())
+    one.kind.get() == other.kind.get() && alike_texts(one.message.get(), other.message.get())
 }
 
 /// Returns whether two lists of failures are alike.
@@ -93,23 +101,24 @@ fn alike_failures(one: &[ViewedFailure], other: &[ViewedFailure]) -> bool
 fn alike_endings(one: &Ending, other: &Ending) -> bool
     ensures { result ≡ alike.alike_endings one.now other.now }
 {
-    alike_texts(one.cause.get(), other.cause.get())
-        && alike_texts(one.timeout_type.get(), other.timeout_type.get())
-        && alike_texts(one.retry_state.get(), other.retry_state.get())
+    one.cause.get() == other.cause.get()
+        && one.timeout_type.get() == other.timeout_type.get()
+        && one.retry_state.get() == other.retry_state.get()
 }
 
-/// Returns whether two events failed for the same reason, and the same is wrong with them.
+/// Returns whether two events failed for the same reason, except for digits of messages, and the
+/// same is wrong with them.
 fn alike_reasons(view: &View, one: &ViewedEvent, other: &ViewedEvent) -> bool
     ensures { result ≡ alike.alike_reasons view.now one.now other.now }
 {
     alike_texts(one.failure.get(), other.failure.get())
         && alike_failures(one.details.failures.get(), other.details.failures.get())
         && alike_endings(&one.details.ending, &other.details.ending)
-        && alike_texts(told_mark(view, one), told_mark(view, other))
+        && told_mark(view, one) == told_mark(view, other)
 }
 
 /// Returns whether two events are alike: they have the same type, are about the same, and failed
-/// for the same reason, except for digits, and their things have come equally far.
+/// for the same reason, except for digits of messages, and their things have come equally far.
 #[tactic(auto, unfolding(crate::specs::Alike::alike_event))]
 fn alike_event(view: &View, one: &ViewedEvent, other: &ViewedEvent) -> bool
     ensures { result ≡ alike.alike_event view.now one.now other.now }

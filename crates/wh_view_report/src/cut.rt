@@ -3,36 +3,28 @@
 ghost use Rattle.std.specs.Prelude.{◌≡◌, ◌∷◌, [], Some, length};
 ghost use Rattle.std.specs.Fmt.{DisplaysOnOk};
 ghost use Rattle.std.specs.Str.{chars};
-ghost use Rattle.wh_view_report.specs.Cut.{is_unseen, shown_char, front, rest_text, cut, label_text};
+ghost use Rattle.wh_view_report.specs.Cut.{is_hidden, shown_char, front, rest_text, cut, label_text};
 
 use std::fmt;
+use wh_html::is_unseen;
 
 /// The most characters of a text that are shown.
 pub(crate) const WIDTH: usize = 80;
 
-/// Returns whether a character would not be seen as what it is: a control character, or one that
-/// changes the direction of writing.
-fn is_unseen(c: char) -> bool
-    ensures { result ≡ is_unseen c }
+/// Returns whether a character is not shown: a control character of ASCII, or another one that would
+/// not be seen.
+fn is_hidden(c: char) -> bool
+    ensures { result ≡ is_hidden c }
 {
-    matches!(
-        c,
-        '\0'..='\u{1f}'
-            | '\u{7f}'..='\u{9f}'
-            | '\u{200e}'..='\u{200f}'
-            | '\u{2028}'..='\u{202e}'
-            | '\u{2066}'..='\u{2069}'
-            | '\u{61c}'
-            | '\u{feff}'
-    )
+    c < ' ' || c == '\u{7f}' || is_unseen(c)
 }
 
-/// Returns a character as it is shown: `?` for a control character, and for one that changes the
-/// direction of writing.
+/// Returns a character as it is shown: `?` for one that would not be seen as what it is
+/// (`wh_html::is_unseen`), and for a control character of ASCII.
 pub fn shown_char(c: char) -> char
     ensures { result ≡ shown_char c }
 {
-    if is_unseen(c) { '?' } else { c }
+    if is_hidden(c) { '?' } else { c }
 }
 
 /// Writes the first characters of a text.

@@ -21,7 +21,7 @@ mod words;
 pub use cut::{Excerpt, shown_char};
 pub use digits::alike_texts;
 pub use run::{run_span, status_word};
-pub use spans::{SpanText, time_taken};
+pub use spans::time_taken;
 pub use subjects::{DeprecatedText, MarkerText, Tries, marker_words};
 pub use text::{
     TaskRange, completed_count, has_selected, is_quiet, is_within, span_of, workflow_type,

@@ -1,118 +1,12 @@
-//! Lengths of time, as people write them, and as seconds in JSON.
+//! How long things waited and took, and how long timers are.
 
 ghost use Rattle.std.specs.Prelude.{◌≡◌, Some};
 ghost use Rattle.wh_view_report.specs.Spans as spans;
 
 use crate::cut::LabelText;
 use std::fmt;
+use wh_html::SpanText;
 use wh_view::{View, ViewedEvent, ViewedThing, duration_in};
-
-/// A length of time by two units, the smaller one only if there are some of it: `5 min 33 s`,
-/// `14 d`.
-#[derive(Clone, Copy)]
-struct UnitPair {
-    large: u64,
-    unit: &'static str,
-    small: u64,
-    part: &'static str,
-}
-
-impl fmt::Display for UnitPair {
-    ghost output = { λ p. Some (spans.pair_text p.large p.unit.now p.small p.part.now) };
-
-    fn fmt<W: fmt::Write>(&self, f: &mut fmt::Formatter<W>) -> fmt::Result {
-        let large = self.large;
-        let unit = self.unit;
-        let small = self.small;
-        let part = self.part;
-        if small == 0 {
-            write!(f, "{large} {unit}")
-        } else {
-            write!(f, "{large} {unit} {small} {part}")
-        }
-    }
-}
-
-/// A length of time below ten seconds, in milliseconds: `80 ms`, `0.3 s`.
-#[derive(Clone, Copy)]
-struct BriefSpan(u64);
-
-impl fmt::Display for BriefSpan {
-    ghost output = { λ b. Some (spans.brief_text b.0) };
-
-    fn fmt<W: fmt::Write>(&self, f: &mut fmt::Formatter<W>) -> fmt::Result {
-        let millis = self.0;
-        if millis < 100 {
-            return write!(f, "{millis} ms");
-        }
-        let seconds = millis / 1_000;
-        let tenths = millis % 1_000 / 100;
-        write!(f, "{seconds}.{tenths} s")
-    }
-}
-
-/// Returns a length of a minute or more, in seconds, by its two largest units.
-fn unit_pair(seconds: u64) -> UnitPair
-    ensures { spans.pair_text result.large result.unit.now result.small result.part.now ≡ spans.units_text seconds }
-{
-    if seconds < 3_600 {
-        UnitPair {
-            large: seconds / 60,
-            unit: "min",
-            small: seconds % 60,
-            part: "s",
-        }
-    } else if seconds < 86_400 {
-        UnitPair {
-            large: seconds / 3_600,
-            unit: "h",
-            small: seconds / 60 % 60,
-            part: "min",
-        }
-    } else {
-        UnitPair {
-            large: seconds / 86_400,
-            unit: "d",
-            small: seconds / 3_600 % 24,
-            part: "h",
-        }
-    }
-}
-
-/// A length of time of ten seconds or more, in seconds.
-#[derive(Clone, Copy)]
-struct LongSpan(u64);
-
-impl fmt::Display for LongSpan {
-    ghost output = { λ l. Some (spans.long_text l.0) };
-
-    fn fmt<W: fmt::Write>(&self, f: &mut fmt::Formatter<W>) -> fmt::Result {
-        let seconds = self.0;
-        if seconds < 60 {
-            return write!(f, "{seconds} s");
-        }
-        let pair = unit_pair(seconds);
-        write!(f, "{pair}")
-    }
-}
-
-/// A length of time in milliseconds, rounded down to what is shown: `0.3 s`, `5 min 33 s`, `14 d`.
-#[derive(Clone, Copy)]
-pub struct SpanText(pub u64);
-
-impl fmt::Display for SpanText {
-    ghost output = { λ l. Some (spans.span_text_of l.0) };
-
-    fn fmt<W: fmt::Write>(&self, f: &mut fmt::Formatter<W>) -> fmt::Result {
-        let millis = self.0;
-        if millis < 10_000 {
-            let brief = BriefSpan(millis);
-            return write!(f, "{brief}");
-        }
-        let long = LongSpan(millis / 1_000);
-        write!(f, "{long}")
-    }
-}
 
 /// A length of time after a label; nothing if it is not known.
 #[derive(Clone, Copy)]

@@ -6,11 +6,11 @@ ghost use Rattle.std.specs.Io.KnownBytes.{Appends};
 ghost use Rattle.wh_view_report.specs.Sums as sums;
 
 use crate::cut::LabelText;
-use crate::spans::SpanText;
 use crate::waits::kind_text;
 use crate::words::Reference;
 use std::io::Write;
 use std::{fmt, io};
+use wh_html::SpanText;
 use wh_view::{Lengths, TypeSum, View, ViewedEvent};
 
 /// So many of the things, before a word; nothing if there are none.

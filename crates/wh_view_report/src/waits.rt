@@ -39,7 +39,7 @@ impl fmt::Display for Until {
         match self.0 {
             Some(millis) => {
                 let stamp = Stamp(millis);
-                write!(f, " until {stamp} UTC")
+                write!(f, " until {stamp}")
             }
             None => Ok(()),
         }

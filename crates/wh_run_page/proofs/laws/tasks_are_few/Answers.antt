@@ -1,8 +1,8 @@
-use Rattle.wh_html.proofs.Shown.{tasks_are_few, ends_are_shown, beginnings_are_shown}
-use Rattle.wh_html.proofs.laws.tasks_are_few.Goals as goal
+use Rattle.wh_run_page.proofs.Few.{beginnings_are_shown, ends_are_shown, tasks_are_in_a_row}
+use Rattle.wh_run_page.proofs.laws.tasks_are_few.Goals as goal
 
 pub returns-clause-few : goal.returns-clause-few
-returns-clause-few c = tasks_are_few
+returns-clause-few c = tasks_are_in_a_row
 
 pub returns-clause-ends : goal.returns-clause-ends
 returns-clause-ends c = ends_are_shown
