@@ -4,6 +4,7 @@ mod command_lines;
 mod explanation_objects;
 mod explanations;
 mod jobs;
+mod orders;
 mod promises;
 mod promising;
 mod querying;

@@ -3,8 +3,8 @@
 use std::alloc::Global;
 use std::process::Abort;
 use test_support::{Still, cut, events_after, key, next_number, row, same, shown};
-use wh_cache::{MOST_CACHED_EVENTS, MOST_RUNS, Put, Sticky};
 use wh_events::{Event, EventKind, Items, Payload};
+use wh_host::{MOST_CACHED_EVENTS, MOST_RUNS, Put, Sticky};
 use wh_replay::Run;
 use wh_workflow::Meter;
 

@@ -9,8 +9,7 @@ use std::process::Abort;
 use std::sync::Wait;
 use std::sync::ledger::{Blank, Ledger};
 use test_support::{Still, key, next_number, push, row, same, shown, wants};
-use wh_host::{Config, Counts, Given, Host, HostState, OpenFault, Outcome, Totals};
-use wh_ledger::Seat;
+use wh_host::{Config, Counts, Given, Host, HostState, OpenFault, Outcome, Seat, Totals};
 use wh_slots::{Held, Permit, SlotKind, TaskName, UseFault};
 use wh_workflow::Workflow;
 

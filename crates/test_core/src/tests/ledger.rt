@@ -7,7 +7,7 @@ use std::marker::Brand;
 use std::process::Abort;
 use std::sync::ledger::{Blank, Ledger};
 use test_support::push;
-use wh_ledger::{Books, Seat, SeatsMissing, Shares};
+use wh_host::{Books, Seat, SeatsMissing, Shares};
 
 /// With a seat missing the books are returned, with the seats that are there.
 fn not_gathered<T: Ledger, C: Ledger, F: Ledger>(

@@ -60,7 +60,10 @@ fn histories_are_queried(rt: HostRuntime) {
         let (mut words, wanted) = row(line).expect(&rt, line);
         let history = cut(&mut words, " ? ");
         let events = events_after(alloc, history, 0).expect(&rt, line);
-        let given = query_history::<All>(alloc, events, words, &[]);
+        let given = match query_history::<All>(alloc, events, words, &[]) {
+            Ok((given, _)) => Ok(given),
+            Err(fault) => Err(fault),
+        };
         let text = given_text(&rt, alloc, &given);
         drop(given);
         same(alloc, text.as_str(), wanted).expect(&rt, line);

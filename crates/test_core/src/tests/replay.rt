@@ -1,10 +1,10 @@
-//! Runs, how often they are stepped, and histories that are checked.
+//! Runs, how often they are stepped, and what replay finds of histories.
 
 use std::alloc::Global;
 use std::process::Abort;
 use test_support::{Still, events_after, key, row, same, shown};
 use wh_events::Event;
-use wh_replay::{Run, check};
+use wh_replay::{Run, replay_history};
 use wh_sample_workflows::All;
 use wh_workflow::{Meter, Workflow};
 
@@ -89,13 +89,13 @@ fn an_answer_is_copied(rt: HostRuntime) {
 
 /// Histories that end anywhere.
 const ENDED: &str = "\
-nap => Ok(Checked tasks: 2, live: false)
-nap/3 => Ok(Checked tasks: 1, live: true)
-nap/1 => Ok(Checked tasks: 0, live: false)
-nap/3 attributes_upserted => Ok(Checked tasks: 1, live: true)
-nap/3 signal:s => Ok(Checked tasks: 0, live: false)
-racer => Ok(Checked tasks: 4, live: false)
-racer/19 => Ok(Checked tasks: 4, live: true)
+nap => Ok(ReplayedTasks tasks: 2, live: false)
+nap/3 => Ok(ReplayedTasks tasks: 1, live: true)
+nap/1 => Ok(ReplayedTasks tasks: 0, live: false)
+nap/3 attributes_upserted => Ok(ReplayedTasks tasks: 1, live: true)
+nap/3 signal:s => Ok(ReplayedTasks tasks: 0, live: false)
+racer => Ok(ReplayedTasks tasks: 4, live: false)
+racer/19 => Ok(ReplayedTasks tasks: 4, live: true)
  => Err(Fault(Place at: 1, fault: FirstNotStart))
 S => Err(Fault(Place at: 1, fault: FirstNotStart))
 start:Nope => Err(Fault(Workflow at: 1, fault: UnknownWorkflow))
@@ -107,33 +107,33 @@ nap/5 timer_fired:3 => Err(Fault(Place at: 6, fault: WrongKindRef))
 start:Nap timer:nap S T => Err(Fault(Workflow at: 4, fault: IdInUse))
 ";
 
-/// The result of checking a history.
-const CHECKED: &str = "\
-start:Still T C signal:s T => Ok(Checked tasks: 2, live: true)
+/// What replay finds of a history.
+const REPLAYED: &str = "\
+start:Still T C signal:s T => Ok(ReplayedTasks tasks: 2, live: true)
 C signal:s T => Err(Fault(Place at: 1, fault: FirstNotStart))
 C signal:s T | 'eventId':'3' -> 'eventId':'5' | 'eventId':'2' -> 'eventId':'4' | 'eventId':'1' -> 'eventId':'3' => Err(Fault(Place at: 1, fault: FirstNotStart))
 ";
 
-/// The result of checking a history, or its fault.
-fn checked_text<W: Workflow>(rt: &impl Abort, alloc: Global, history: &'static str) -> String {
+/// What replay finds of a history, or its fault.
+fn replayed_text<W: Workflow>(rt: &impl Abort, alloc: Global, history: &'static str) -> String {
     shown(
         alloc,
-        &check::<W>(alloc, events_after(alloc, history, 0).expect(rt, history)),
+        &replay_history::<W>(alloc, events_after(alloc, history, 0).expect(rt, history)),
     )
     .expect(rt, "memory")
 }
 
-/// Checks the history of each row.
-fn checks<W: Workflow>(rt: &impl Abort, alloc: Global, table: &'static str) {
+/// Replays the history of each row.
+fn replays<W: Workflow>(rt: &impl Abort, alloc: Global, table: &'static str) {
     for line in table.lines() {
         let (history, wanted) = row(line).expect(rt, line);
-        let text = checked_text::<W>(rt, alloc, history);
+        let text = replayed_text::<W>(rt, alloc, history);
         same(alloc, text.as_str(), wanted).expect(rt, history);
     }
 }
 
 #[test]
-fn histories_are_checked(rt: HostRuntime) {
-    checks::<Still>(&rt, rt.alloc(), CHECKED);
-    checks::<All>(&rt, rt.alloc(), ENDED);
+fn histories_are_replayed(rt: HostRuntime) {
+    replays::<Still>(&rt, rt.alloc(), REPLAYED);
+    replays::<All>(&rt, rt.alloc(), ENDED);
 }

@@ -13,8 +13,7 @@ use std::sync::{Mutex, Wait};
 use std::thread::Threads;
 use std::time::{Clock, Duration};
 use test_support::{cut, next_number, push, wants};
-use wh_host::{Companion, Config, Counts, EndSignal, Host, accompany};
-use wh_ledger::Seat;
+use wh_host::{Companion, Config, Counts, EndSignal, Host, Seat, accompany};
 use wh_poll::{
     ActivityHandler, NoActivities, NoObserver, Worker, WorkerSetup, run_beside, run_on_host,
     run_workers,

@@ -1,5 +1,9 @@
 //! Folders of recorded histories, served.
 
+ghost use Rattle.std.specs.Prelude.{◌≡◌, IfOk, vec_len};
+ghost use Rattle.wh_slots.specs.Sizes.{IsConfig};
+ghost use Rattle.wh_service.specs.Services.{IsHosted};
+
 use crate::tests::reports::named_files;
 use std::alloc::Global;
 use std::io::Write;
@@ -7,10 +11,14 @@ use std::process::Abort;
 use std::sync::Wait;
 use std::thread::Threads;
 use test_support::{next_number, same, with_status};
+use wh_console::InputFault;
+use wh_events::OutOfMemory;
 use wh_file_faults::CommandFault;
+use wh_host::Config;
 use wh_sample_workflows::All;
-use wh_service::ServiceEnd;
-use wh_service_command::{serve_command, serve_with_failures};
+use wh_service::{
+    ServiceEnd, ServiceHost, ServiceSetup, host_of, read_inputs, report_served, serve_read,
+};
 
 /// Files of all samples, each by its name and its history.
 const SAMPLES: &str =
@@ -139,52 +147,68 @@ taken 7, completed 7, failed 0, in hand 0
 not compared: true
 status 0";
 
-/// How many workers serve, and how many runs and events the cache holds.
-#[derive(Clone, Copy)]
-struct Sizes {
-    workers: u64,
-    cache: u64,
-    cache_events: u64,
+/// The sizes of a host with so many workers and slots, whose cache holds so many runs and events.
+fn sizes(rt: &impl Abort, workers: u64, cache: u64, cache_events: u64) -> Config
+    ensures { IsConfig result }
+{
+    assert!(rt; 1 <= workers && workers <= 4 && cache <= 100 && cache_events <= 100);
+    Config {
+        workflow_slots: workers as usize,
+        activity_slots: workers as usize,
+        cache: cache as usize,
+        cache_events,
+        seats: workers as usize,
+    }
 }
 
-/// Serves the files.
+/// The sizes in a line.
+fn sizes_of(rt: &impl Abort, line: &'static str) -> Config
+    ensures { IsConfig result }
+{
+    let mut words = line;
+    let workers = next_number(&mut words).expect(rt, "a number");
+    let cache = next_number(&mut words).expect(rt, "a number");
+    let cache_events = next_number(&mut words).expect(rt, "a number");
+    sizes(rt, workers, cache, cache_events)
+}
+
+/// Serves the files, and writes the report.
 fn serve<R: Threads + Wait + Abort + Sync, O: Write>(
     rt: &R,
     alloc: Global,
     files: Vec<(String, Vec<u8>)>,
-    sizes: Sizes,
+    sizes: Config,
     writer: &mut O,
-) -> Result<u8, CommandFault> {
-    let (workers, cache, cache_events) = (sizes.workers, sizes.cache, sizes.cache_events);
-    assert!(rt; 1 <= workers && workers <= 4 && cache <= 100 && cache_events <= 100);
-    serve_command::<All, _, _>(
+) -> Result<ServiceEnd, CommandFault>
+    requires { IsConfig sizes }
+{
+    let read = read_inputs::<All, R, _, _>(
         rt,
         alloc,
         files,
-        workers,
-        cache,
-        cache_events,
-        workers,
-        writer,
-    )
-}
-
-/// The sizes in a line.
-fn sizes_of(rt: &impl Abort, line: &'static str) -> Sizes {
-    let mut words = line;
-    Sizes {
-        workers: next_number(&mut words).expect(rt, "a number"),
-        cache: next_number(&mut words).expect(rt, "a number"),
-        cache_events: next_number(&mut words).expect(rt, "a number"),
-    }
+        |file: (String, Vec<u8>)| -> Result<(String, Vec<u8>), InputFault> { Ok(file) },
+    );
+    let served = serve_read(
+        alloc,
+        read.expect(rt, "memory"),
+        sizes,
+        |config: Config, setups: Vec<ServiceSetup>| -> Result<ServiceHost, OutOfMemory>
+            requires sizes { IsConfig config }
+            requires seats { config.seats ≡ vec_len setups }
+            ensures { IfOk result (IsHosted All.program config setups) }
+        { host_of::<All, R>(rt, alloc, config, setups) },
+    );
+    report_served(served.expect(rt, "memory"), writer)
 }
 
 /// The report of all samples, followed by its status.
-fn samples_served<R: Threads + Wait + Abort + Sync>(rt: &R, alloc: Global, sizes: Sizes) -> String {
+fn samples_served<R: Threads + Wait + Abort + Sync>(rt: &R, alloc: Global, sizes: Config) -> String
+    requires { IsConfig sizes }
+{
     let mut out = Vec::new(alloc);
     let files = named_files(rt, alloc, SAMPLES);
-    let status = serve(rt, alloc, files, sizes, &mut out);
-    with_status(out, status.expect(rt, "refused")).expect(rt, "a text")
+    let end = serve(rt, alloc, files, sizes, &mut out);
+    with_status(out, end.expect(rt, "written").status).expect(rt, "a text")
 }
 
 #[test]
@@ -192,22 +216,6 @@ fn samples_are_served_whatever_the_sizes(rt: HostRuntime) {
     for line in SIZES.lines() {
         let report = samples_served(&rt, rt.alloc(), sizes_of(&rt, line));
         same(rt.alloc(), report.as_str(), SAMPLES_SERVED).expect(&rt, line);
-    }
-}
-
-/// Serves files with so many workers.
-fn service<R: Threads + Wait + Abort + Sync>(
-    rt: &R,
-    alloc: Global,
-    files: &'static str,
-    workers: u64,
-    out: &mut Vec<u8>,
-) -> ServiceEnd {
-    assert!(rt; 1 <= workers && workers <= 4);
-    let files = named_files(rt, alloc, files);
-    match serve_with_failures::<All, _, _>(rt, alloc, files, workers, 1, 0, workers, out) {
-        Ok(end) => end,
-        Err(_) => panic!(rt; "refused"),
     }
 }
 
@@ -226,8 +234,9 @@ fn is_served<R: Threads + Wait + Abort + Sync>(rt: &R, alloc: Global, block: &'s
     let (mut files, wanted) = block.split_once("\n").expect(rt, block);
     let workers = next_number(&mut files).expect(rt, "a number");
     let mut out = Vec::new(alloc);
-    let end = service(rt, alloc, files, workers, &mut out);
-    let told = told(rt, &end, out);
+    let histories = named_files(rt, alloc, files);
+    let end = serve(rt, alloc, histories, sizes(rt, workers, 1, 0), &mut out);
+    let told = told(rt, &end.expect(rt, "written"), out);
     same(alloc, told.as_str(), wanted).expect(rt, files);
 }
 
@@ -243,11 +252,7 @@ fn a_writer_that_fails_is_told(rt: HostRuntime) {
     let mut room = [0; 50];
     let mut writer = room.as_mut_slice();
     let files = named_files(&rt, rt.alloc(), "nap.json: nap; greet.json: greet");
-    let sizes = Sizes {
-        workers: 1,
-        cache: 100,
-        cache_events: 0,
-    };
+    let sizes = sizes(&rt, 1, 100, 0);
     let answer = serve(&rt, rt.alloc(), files, sizes, &mut writer);
     assert!(rt; matches!(answer, Err(CommandFault::Output)));
 }

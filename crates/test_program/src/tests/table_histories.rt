@@ -22,9 +22,9 @@ fn both<T: Workflow, C: Workflow>(
 
 /// Histories of naps, and the verdicts on them.
 const NAPS: [(&str, &str); 5] = [
-    ("nap", "Good(Checked tasks: 2, live: false)"),
-    ("nap/8", "Good(Checked tasks: 2, live: true)"),
-    ("nap/3", "Good(Checked tasks: 1, live: true)"),
+    ("nap", "Good(ReplayedTasks tasks: 2, live: false)"),
+    ("nap/8", "Good(ReplayedTasks tasks: 2, live: true)"),
+    ("nap/3", "Good(ReplayedTasks tasks: 1, live: true)"),
     (
         "nap/8 C failed",
         "Faulty(Mismatch at: 8, mismatch: Different event: 10)",
@@ -45,15 +45,15 @@ fn a_nap_replays_as_its_code(rt: HostRuntime) -> Result<(), Fail> {
 
 /// Histories of families, and the verdicts on them.
 const FAMILIES: [(&str, &str); 5] = [
-    ("family", "Good(Checked tasks: 3, live: false)"),
-    ("family/9", "Good(Checked tasks: 2, live: false)"),
+    ("family", "Good(ReplayedTasks tasks: 3, live: false)"),
+    ("family/9", "Good(ReplayedTasks tasks: 2, live: false)"),
     (
         "start:Family S T C child:kid:Nap child_started:5 signal:stop S T C cancel_child:kid cancel_sent:11 child_canceled:5 S T C canceled",
-        "Good(Checked tasks: 3, live: false)",
+        "Good(ReplayedTasks tasks: 3, live: false)",
     ),
     (
         "start:Family S T C child:kid:Nap child_refused:5 S T C failed",
-        "Good(Checked tasks: 2, live: false)",
+        "Good(ReplayedTasks tasks: 2, live: false)",
     ),
     (
         "start:Family S T C child:kid:Nap child_started:5 S T C child_terminated:5 S T C completed",
@@ -75,19 +75,19 @@ fn a_family_replays_as_its_code(rt: HostRuntime) -> Result<(), Fail> {
 const ORDERS: [(&str, &str); 7] = [
     (
         "start:Order S T C activity:charge:ChargeCard activity_started:5 activity_completed:5 S T C timer:hold timer_fired:11 S T C child:parcel:Ship child_started:16 S T C child_completed:16 S T C completed",
-        "Good(Checked tasks: 5, live: false)",
+        "Good(ReplayedTasks tasks: 5, live: false)",
     ),
     (
         "start:Order S T C activity:charge:ChargeCard activity_started:5 activity_completed:5 S T C timer:hold timer_fired:11 S T C chg_marker:MQ== child:parcel:ShipTracked child_started:17 S T C child_completed:17 S T C completed | ImNoZyI= -> InRyYWNrZWQi",
-        "Good(Checked tasks: 5, live: false)",
+        "Good(ReplayedTasks tasks: 5, live: false)",
     ),
     (
         "start:Order S T C activity:charge:ChargeCard activity_started:5 activity_failed:5 S T C failed",
-        "Good(Checked tasks: 2, live: false)",
+        "Good(ReplayedTasks tasks: 2, live: false)",
     ),
     (
         "start:Order S T C activity:charge:ChargeCard activity_started:5 activity_completed:5 S T C timer:hold signal:cancel S T C timer_canceled:11 completed",
-        "Good(Checked tasks: 3, live: false)",
+        "Good(ReplayedTasks tasks: 3, live: false)",
     ),
     (
         "start:Order S T C activity:charge:ChargeCard activity_started:5 activity_completed:5 S T C timer:hold signal:cancel S T C completed",
@@ -95,7 +95,7 @@ const ORDERS: [(&str, &str); 7] = [
     ),
     (
         "start:Order S T C activity:charge:ChargeCard signal:cancel S T C activity_canceled:5 S T C failed",
-        "Good(Checked tasks: 3, live: false)",
+        "Good(ReplayedTasks tasks: 3, live: false)",
     ),
     (
         "start:Order S T C activity:charge:ChargeCard activity_started:5 activity_completed:5 S T C timer:hold timer_fired:11 S T C child:parcel:ShipTracked child_started:16 S T C child_completed:16 S T C completed",

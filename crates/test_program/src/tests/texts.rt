@@ -5,7 +5,7 @@ use std::process::Abort;
 use test_support::{push, repeated, same};
 use wh_events::{EventNo, Items, PlaceFault};
 use wh_json::ReadFault;
-use wh_replay::{Checked, Fault};
+use wh_replay::{Fault, ReplayedTasks};
 use wh_report::{Format, Record, status_of, write_report};
 use wh_tester::{Line, Verdict};
 use wh_workflow::{Mismatch, WorkflowFault, text_of};
@@ -58,7 +58,8 @@ x.json: fault, event 5 differs
 x.json: fault, event 5 has no command
 x.json: fault, command 2 of the task at 8 has no event
 x.json: fault, not a task
-21 files, 0 ok
+x.json: fault, task at 1: UnknownWorkflow
+22 files, 0 ok
 ";
 
 /// The report of the faults of reading.
@@ -99,11 +100,12 @@ const JSON: &str = r#"{"file":"a\"b\\c?.json","verdict":"ok","tasks":3,"live":fa
 {"file":"x.json","verdict":"fault","fault":"not a task"}
 {"file":"x.json","verdict":"fault","event":5,"fault":"event 5 is not in place: NoSuchRef"}
 {"file":"x.json","verdict":"fault","task":7,"fault":"task at 7: NotOpen"}
+{"file":"x.json","verdict":"fault","task":1,"fault":"task at 1: UnknownWorkflow","workflowType":"No\"pe"}
 {"file":"x.json","verdict":"fault","event":5,"fault":"event 5 differs"}
 {"file":"x.json","verdict":"fault","event":5,"fault":"event 5 has no command"}
 {"file":"x.json","verdict":"fault","task":8,"fault":"command 2 of the task at 8 has no event"}
 {"file":"x.json","verdict":"out of memory"}
-{"files":12,"ok":2}
+{"files":13,"ok":2}
 "#;
 
 /// The report of files of these names, whose check ran out of memory.
@@ -152,6 +154,12 @@ fn add_fault(rt: &impl Abort, alloc: Global, records: &mut Vec<Record>, fault: F
     add(rt, alloc, records, "x.json", Verdict::Faulty(fault));
 }
 
+/// A file for whose workflow type there is no code.
+fn add_no_code(rt: &impl Abort, alloc: Global, records: &mut Vec<Record>) {
+    let kind = text_of(alloc, "No\"pe").expect(rt, "memory");
+    add(rt, alloc, records, "x.json", Verdict::NoCode { kind });
+}
+
 /// A file whose task at 8 differs from its record.
 fn add_mismatch(rt: &impl Abort, alloc: Global, records: &mut Vec<Record>, mismatch: Mismatch) {
     add_fault(rt, alloc, records, Fault::Mismatch { at: 8, mismatch });
@@ -182,6 +190,7 @@ fn shows_faults(rt: HostRuntime) {
     }
     add_mismatches(&rt, alloc, &mut records);
     add_fault(&rt, alloc, &mut records, Fault::NotATask);
+    add_no_code(&rt, alloc, &mut records);
     reports(&rt, alloc, records.as_slice(), FAULTS);
 }
 
@@ -260,7 +269,7 @@ fn add_good(
         alloc,
         records,
         name,
-        Verdict::Good(Checked { tasks, live }),
+        Verdict::Good(ReplayedTasks { tasks, live }),
     );
 }
 
@@ -332,6 +341,7 @@ fn add_each(rt: &impl Abort, alloc: Global, records: &mut Vec<Record>) {
     add_fault(rt, alloc, records, Fault::Place { at: 5, fault });
     let fault = WorkflowFault::NotOpen;
     add_fault(rt, alloc, records, Fault::Workflow { at: 7, fault });
+    add_no_code(rt, alloc, records);
     add_mismatches(rt, alloc, records);
 }
 

@@ -4,7 +4,7 @@ use std::alloc::Global;
 use std::process::Abort;
 use test_support::{bytes_of, row};
 use wh_phrases::{OtherValue, OtherValueText};
-use wh_report::check_values;
+use wh_report::replay_with_values;
 use wh_sample_workflows::All;
 use wh_workflow::Workflow;
 
@@ -53,7 +53,7 @@ fn values_text(rt: &impl Abort, alloc: Global, values: &[OtherValue]) -> String 
 
 /// The values of a file that differ.
 fn values_in<W: Workflow>(alloc: Global, bytes: &[u8]) -> Vec<OtherValue> {
-    let (explanation, values) = check_values::<W>(alloc, bytes);
+    let (explanation, values) = replay_with_values::<W>(alloc, bytes);
     drop(explanation);
     values
 }
