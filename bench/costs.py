@@ -1,14 +1,16 @@
 #!/usr/bin/env python3
 """Prints what a build cost, by the times at which the files that it kept were written: seconds by crate, by function and by
 kind of module, the dearest first. It reads what `./wfhost` or `rt check` left in crates/*/out/incremental, so it tells of the
-last proof of each module. A restart of rattle in the midst of a crate, or a second job, puts seconds on some other module:
-look at the size of a function's module `Lts` too, which grows with its cost. `--most N` prints N rows of each list (30), and
-the crates that are named, or all, are counted.
+last proof of each module. Of the libraries below a crate it counts what rattle reads between two modules, as `(reading)`, and
+not what it reads before the first, nor the writing of the crate's own library. A second job puts seconds on some other
+module: look at the size of a function's module `Lts` too, which grows with its cost. `--most N` prints N rows of each list
+(30), and the crates that are named, or all, are counted.
 
 `--keep` writes costs.txt, by which launcher.py orders its work and says how long it takes, from what `./wfhost` noted of the
 crates that it proved from nothing. Crates of which it noted nothing keep their row, and the new rows are brought to the
-speed of the machine of the old ones, unless all are new; a row that is only estimated says nothing of that. `--expected`
-prints how long the first build of each program takes by costs.txt."""
+speed of the machine of the old ones, unless all are new; a row that is only estimated says nothing of that. It writes the
+minutes of docs/use/USAGE.md too, which follow from costs.txt; `--pages` writes these alone, as after a change of crates.txt.
+`--expected` prints how long the first build of each program takes by costs.txt."""
 
 import argparse
 import re
@@ -24,6 +26,10 @@ import launcher
 
 # What `./wfhost` builds.
 PROGRAMS = ("wfhost_replay", "wfhost_files", "wfhost_tables", "wfhost_serve", "wfhost")
+# The page that says how long the first build of each program takes, and its row of a program: the minutes on four processors,
+# and on two.
+PAGE = TOP / "docs/use/USAGE.md"
+TIMED = re.compile(r"^(\|.*\| `(\w+)`[^|]*\|) (\d+) \| (\d+) \|$", re.MULTILINE)
 # What stands at the head of costs.txt.
 HEAD = """# The processor seconds that each crate takes if it is proved from nothing, with one job. Where a crate has no row, its lines
 # count. bench/costs.py --keep writes this.
@@ -32,6 +38,8 @@ HEAD = """# The processor seconds that each crate takes if it is proved from not
 MARK = " # estimated"
 # The name of a module's file: the crate, the side, and the path.
 FILE = re.compile(r"Rattle-(\w+?)(?:-(specs|proofs))?\.(.*)\.oantt")
+# What stands in place of a module for what is read.
+READING = "(reading)"
 # The modules that a function's proof has, beside its own name.
 KINDS = {
     "Lts", "Proof", "Tie", "Code", "Mir", "Layout", "Reads", "Kinds", "Statement", "Met", "Symbol", "TheLink", "Invariants",
@@ -39,6 +47,8 @@ KINDS = {
 }
 # The most seconds between two files that are one module's cost: more is a pause between two checks.
 MOST_PAUSE = 400
+# A file of at most so many bytes costs nothing by itself: what takes more seconds than these before it is read for others.
+SMALL, SHORT = 4_000, 1
 
 
 def modules_of(crate):
@@ -49,15 +59,21 @@ def modules_of(crate):
     for written, size, name in files:
         pause, last = written - last, written
         found = FILE.fullmatch(name)
-        if found and found[2] == "proofs" and pause < MOST_PAUSE:
+        if pause >= MOST_PAUSE:
+            continue
+        if size <= SMALL and pause > SHORT:
+            yield READING, pause, 0
+        elif found and found[2] == "proofs":
             yield found[3], pause, size
-        elif pause < MOST_PAUSE:
+        else:
             yield f"specs.{name}", pause, size
 
 
 def parted(module):
     """The function and the kind of a module."""
     words = module.split(".")
+    if module == READING:
+        return READING, "reading"
     if words[0] == "specs":
         return "(specs)", "specs"
     kinds = [at for at, word in enumerate(words) if word in KINDS]
@@ -97,28 +113,63 @@ def keep():
     marks = {name: MARK * (name in estimated - own) for name, _ in rows}
     launcher.TABLE.write_text(HEAD + "".join(f"{name} {seconds:.0f}{marks[name]}\n" for name, seconds in rows), encoding="utf-8")
     print(f"costs: {len(rows)} rows, of which {len(own)} were measured here")
+    write_page()
+
+
+def write_page():
+    """Writes how long the first build of each program takes into its page."""
+    PAGE.write_text(with_minutes(PAGE.read_text(encoding="utf-8")), encoding="utf-8")
+
+
+def with_minutes(page):
+    """A page with the minutes that follow from costs.txt in its rows of programs."""
+    return TIMED.sub(lambda row: f"{row[1]} {' | '.join(minutes_of(row[2]))} |", page)
+
+
+def minutes_of(program):
+    """The minutes that the first build of a program takes on four processors, and on two, as its page has them."""
+    costs, below = build_of(program)
+    return [f"{launcher.simulated(costs, below, lanes) / 60:.0f}" for lanes in (4, 2)]
+
+
+def build_of(program):
+    """What each crate of a program's first build costs, and on which others it stands."""
+    crates = launcher.crates_of(program)
+    return launcher.costs_of(crates), {crate.name: {one.name for one in crate.below} for crate in crates}
 
 
 def expect():
-    """Prints how long the first build of each program takes."""
+    """Prints how long the first build of each program takes, and the chain of crates that takes longest."""
     for program in PROGRAMS:
-        crates = launcher.crates_of(program)
-        costs, below = launcher.costs_of(crates), {crate.name: {one.name for one in crate.below} for crate in crates}
-        longest = max(launcher.heights_of(costs, below).values())
+        costs, below = build_of(program)
+        heights = launcher.heights_of(costs, below)
         times = [f"{launcher.simulated(costs, below, lanes) / 60:.0f} min on {lanes}" for lanes in (1, 2, 4, 8)]
-        whole = f"{sum(costs.values()):.0f} s of a processor, of which the longest chain takes {longest:.0f}"
-        print(f"{program}: {len(crates)} crates, {whole}; {', '.join(times)} processors")
+        whole = f"{sum(costs.values()):.0f} s of a processor, of which the longest chain takes {max(heights.values()):.0f}"
+        print(f"{program}: {len(costs)} crates, {whole}; {', '.join(times)} processors")
+        print(f"    {', '.join(chain_of(heights, below))}")
+
+
+def chain_of(heights, below):
+    """The crates of the longest chain, the lowest first."""
+    chain, left = [], [*heights]
+    while left:
+        chain.append(max(left, key=heights.get))
+        left = [name for name in left if chain[-1] in below[name]]
+    return chain
 
 
 def main():
     asked = argparse.ArgumentParser(description=__doc__, formatter_class=argparse.RawDescriptionHelpFormatter)
     asked.add_argument("--most", type=int, default=30)
     asked.add_argument("--keep", action="store_true")
+    asked.add_argument("--pages", action="store_true")
     asked.add_argument("--expected", action="store_true")
     asked.add_argument("crates", nargs="*")
     given = asked.parse_args()
     if given.keep:
         return keep()
+    if given.pages:
+        return write_page()
     if given.expected:
         return expect()
     names = given.crates or sorted(folder.name for folder in CRATES.iterdir())

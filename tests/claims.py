@@ -24,8 +24,8 @@ import sys
 import rust_items
 from rows import TOP, try_rows, words_of
 
-sys.path.insert(0, str(TOP))
-import launcher
+sys.path.insert(0, str(TOP / "bench"))
+import costs
 from rust_items import body_of, past_braces
 
 code_of = functools.cache(rust_items.code_of)
@@ -37,8 +37,6 @@ LINK = re.compile(r"\]\(([^)#:]*)(?:#([\w-]+))?\)")
 QUOTED = re.compile(r"^```\w+ (\S+)\n(.*?)^```$", re.DOTALL | re.MULTILINE)
 # What a recipe names: a crate, or a file.
 NAMED = re.compile(r"`([\w/]+\.(?:rt|antt|py|txt|toml|yaml|c))`|\b([a-z]+(?:_[a-z]+)+)\b")
-# The row of a program: its minutes on four processors, and on two.
-TIMED = re.compile(r"^\|.*\| `(\w+)`[^|]*\| (\d+) \| (\d+) \|$", re.MULTILINE)
 # Where the files of a crate are, and those of no crate.
 PLACES = ("src", "specs", ".")
 # What a type parameter or a ghost item may be called in backticks, without being an item of its own.
@@ -260,11 +258,9 @@ def claims_of_map(page):
 
 def claims_of_times(page):
     """Yields the minutes that a page gives for the first build of each program, with what is wrong with them."""
-    for program, *given in TIMED.findall(page):
-        crates = launcher.crates_of(program)
-        costs, below = launcher.costs_of(crates), {crate.name: {one.name for one in crate.below} for crate in crates}
-        wanted = [f"{launcher.simulated(costs, below, lanes) / 60:.0f}" for lanes in (4, 2)]
-        why = f"it has {' and '.join(given)} minutes, by costs.txt these are {' and '.join(wanted)}"
+    for _, program, *given in costs.TIMED.findall(page):
+        wanted = costs.minutes_of(program)
+        why = f"it has {' and '.join(given)} minutes, by costs.txt these are {' and '.join(wanted)}, which bench/costs.py --pages writes"
         yield f"the first build of {program}", None if given == wanted else why
 
 

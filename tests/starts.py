@@ -1,7 +1,7 @@
 #!/usr/bin/env python3
 """Tries `./wfhost` without rt: which program it takes for a command, when it starts that at once and when launcher.py builds it
-first, what launcher.py has a stand-in for rt do, how long it expects that to take, how often quick_rt.py has a crate read, and
-that costs.txt names crates alone.
+first, what launcher.py has a stand-in for rt do, how long it expects that to take, how often quick_rt.py has a crate read, what
+bench/costs.py makes of a build's files, and that costs.txt names crates alone.
 
     tests/starts.py
 
@@ -17,6 +17,8 @@ from pathlib import Path
 from rows import TOP, difference, try_rows, words_of
 
 sys.path.insert(1, str(TOP))
+sys.path.insert(1, str(TOP / "bench"))
+import costs  # noqa: E402
 import launcher  # noqa: E402
 import quick_rt  # noqa: E402
 
@@ -109,6 +111,22 @@ SCHEDULES = [
     (LONG, 1, 270),
     (LONG, 2, 70 + 60 + 28),
     ("", 4, 0),
+]
+# Crates, each after those that it stands on, and the longest chain, of which all stand on one another.
+CHAINS = [
+    ("a 9: ; b 5: ; c 4: b; d 1: a b c", "b c d"),
+    ("a 9: ; b 5: ; c 3: b; d 1: a b c", "a d"),
+    ("a 2:", "a"),
+]
+# The files of a build, each with its bytes and the seconds after the one before, and what each second went to.
+MODULES = [
+    ("Rattle-k.oantt", 1_000, 0, ("(specs)", 0)),
+    ("Rattle-k-proofs.f.oantt", 1_000, 7, ("(reading)", 7)),
+    ("Rattle-k-proofs.f.Lts.oantt", 3_000, 1, ("f", 1)),
+    ("Rattle-k-proofs.g.T.h.Proof.oantt", 90_000, 5, ("g::T::h", 5)),
+    ("Rattle-k-specs.Kinds.oantt", 90_000, 2, ("(specs)", 2)),
+    ("Rattle-k-specs.contracts.f.Key.oantt", 3_000, 9, ("(reading)", 9)),
+    ("Rattle-k-proofs.g.oantt", 1_000, 500, None),
 ]
 # What has begun, with the seconds that it took.
 BEGUN = [
@@ -233,6 +251,19 @@ def sums():
         yield f"two sums of a {kind.__name__}", ("top(left(low()) right(low()))", reads), (top.stamp() and top.stamp(), low.reads)
 
 
+def parts_of_build():
+    """Yields what the seconds of a build went to, by the times of its files."""
+    with tempfile.TemporaryDirectory() as made:
+        kept, now = Path(made, "out/incremental/kit"), 1_000
+        kept.mkdir(parents=True)
+        for name, size, seconds, _ in MODULES:
+            now += seconds
+            (kept / name).write_bytes(bytes(size))
+            os.utime(kept / name, (now, now))
+        came = [(costs.parted(module)[0], round(seconds)) for module, seconds, _ in costs.modules_of(Path(made))]
+    yield "the parts of a build", [wanted for *_, wanted in MODULES if wanted], came
+
+
 def tries():
     """Yields each row with what is wanted and what came."""
     for words, program in PROGRAMS:
@@ -248,6 +279,13 @@ def tries():
         yield f"{lanes} lanes for {text}", seconds, round(launcher.simulated(*table_of(text), lanes))
     for text, lanes, begun, seconds in BEGUN:
         yield f"{lanes} lanes for {text}, begun {begun}", seconds, round(launcher.simulated(*table_of(text), lanes, begun))
+    for text, chain in CHAINS:
+        table, below = table_of(text)
+        yield f"the chain of {text}", chain, " ".join(costs.chain_of(launcher.heights_of(table, below), below))
+    yield from parts_of_build()
+    page = "| `replay` | `wfhost_replay` | 1 | 2 |\n| `wfhost_replay` | 1 | 2 |\nno row | 1 | 2 |\n"
+    minutes = " | ".join(costs.minutes_of(REPLAY))
+    yield "minutes that are written", page.replace("1 | 2", minutes, 1), costs.with_minutes(page)
     for taken, factor in PACES:
         yield f"pace of {taken}", factor, round(launcher.Pace(table_of(EVEN)[0], taken).factor(), 3)
     for program in (ALL, REPLAY, FILES, TABLES, SERVE):
