@@ -91,7 +91,8 @@ Completed (event 25) 2024-05-01T10:00:25Z, after 24 s
 task 1: WorkflowTaskCompleted (event 4) 2024-05-01T10:00:04Z
   told WorkflowExecutionSignaled go (event 5) 2024-05-01T10:00:05Z
 task 2: WorkflowTaskCompleted (event 8) 2024-05-01T10:00:08Z
-1 more tasks, up to task 3 (event 12), repeat tasks before them but for ids, numbers, times and values: 4 events, which --all shows
+  told WorkflowExecutionSignaled go7 (event 9) 2024-05-01T10:00:09Z
+task 3: WorkflowTaskCompleted (event 12) 2024-05-01T10:00:12Z
   told WorkflowExecutionSignaled stop (event 13) 2024-05-01T10:00:13Z
 task 4: WorkflowTaskCompleted (event 16) 2024-05-01T10:00:16Z
 1 more tasks, up to task 5 (event 20), repeat tasks before them but for ids, numbers, times and values: 4 events, which --all shows
