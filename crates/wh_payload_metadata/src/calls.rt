@@ -25,8 +25,9 @@ const SPARE_RUNS: usize = 1_000;
 /// The history that comes with workflow tasks is in `runs`, by the id of the run: those whose tasks
 /// came last, and nothing else takes their room. What comes with an activity task, the queries that
 /// come with a workflow task, both by the token of the task, and what comes for queries that came
-/// alone, by the id of their run, is in `until_answered`, and is forgotten with the answer. What
-/// comes is noted without a lock. As long as there was nothing to keep, neither of both is locked.
+/// alone, by the id of their run, is in `until_answered`. It is forgotten once the server took the
+/// answer, and for queries that came alone with the answer. What comes is noted without a lock. As
+/// long as there was nothing to keep, neither of both is locked.
 #[derive(Drop)]
 pub struct KeepingCalls<'a, C> {
     calls: &'a C,

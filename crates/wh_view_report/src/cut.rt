@@ -75,8 +75,8 @@ impl fmt::Display for Rest {
     }
 }
 
-/// The first 80 characters of a text, with `?` for each control character and each one that changes
-/// the direction of writing. If the text is longer, the number of its characters follows.
+/// The first 80 characters of a text, with `?` for each character that `shown_char` does not show.
+/// If the text is longer, the number of its characters follows.
 #[derive(Drop)]
 pub struct Excerpt<'a>(pub &'a str);
 
