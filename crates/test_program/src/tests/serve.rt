@@ -19,6 +19,7 @@ use wh_sample_workflows::All;
 use wh_service::{
     ServiceEnd, ServiceHost, ServiceSetup, host_of, read_inputs, report_served, serve_read,
 };
+use wh_workflow::Workflow;
 
 /// Files of all samples, each by its name and its history.
 const SAMPLES: &str =
@@ -173,7 +174,7 @@ fn sizes_of(rt: &impl Abort, line: &'static str) -> Config
 }
 
 /// Serves the files, and writes the report.
-fn serve<R: Threads + Wait + Abort + Sync, O: Write>(
+fn serve<W: Workflow + Send, R: Threads + Wait + Abort + Sync, O: Write>(
     rt: &R,
     alloc: Global,
     files: Vec<(String, Vec<u8>)>,
@@ -182,7 +183,7 @@ fn serve<R: Threads + Wait + Abort + Sync, O: Write>(
 ) -> Result<ServiceEnd, CommandFault>
     requires { IsConfig sizes }
 {
-    let read = read_inputs::<All, R, _, _>(
+    let read = read_inputs::<W, R, _, _>(
         rt,
         alloc,
         files,
@@ -195,8 +196,8 @@ fn serve<R: Threads + Wait + Abort + Sync, O: Write>(
         |config: Config, setups: Vec<ServiceSetup>| -> Result<ServiceHost, OutOfMemory>
             requires sizes { IsConfig config }
             requires seats { config.seats ≡ vec_len setups }
-            ensures { IfOk result (IsHosted All.program config setups) }
-        { host_of::<All, R>(rt, alloc, config, setups) },
+            ensures { IfOk result (IsHosted W.program config setups) }
+        { host_of::<W, R>(rt, alloc, config, setups) },
     );
     report_served(served.expect(rt, "memory"), writer)
 }
@@ -207,7 +208,7 @@ fn samples_served<R: Threads + Wait + Abort + Sync>(rt: &R, alloc: Global, sizes
 {
     let mut out = Vec::new(alloc);
     let files = named_files(rt, alloc, SAMPLES);
-    let end = serve(rt, alloc, files, sizes, &mut out);
+    let end = serve::<All, R, _>(rt, alloc, files, sizes, &mut out);
     with_status(out, end.expect(rt, "written").status).expect(rt, "a text")
 }
 
@@ -235,7 +236,7 @@ fn is_served<R: Threads + Wait + Abort + Sync>(rt: &R, alloc: Global, block: &'s
     let workers = next_number(&mut files).expect(rt, "a number");
     let mut out = Vec::new(alloc);
     let histories = named_files(rt, alloc, files);
-    let end = serve(rt, alloc, histories, sizes(rt, workers, 1, 0), &mut out);
+    let end = serve::<All, R, _>(rt, alloc, histories, sizes(rt, workers, 1, 0), &mut out);
     let told = told(rt, &end.expect(rt, "written"), out);
     same(alloc, told.as_str(), wanted).expect(rt, files);
 }
