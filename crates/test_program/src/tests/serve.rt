@@ -208,7 +208,7 @@ fn samples_served<R: Threads + Wait + Abort + Sync>(rt: &R, alloc: Global, sizes
 {
     let mut out = Vec::new(alloc);
     let files = named_files(rt, alloc, SAMPLES);
-    let end = serve::<All, R, _>(rt, alloc, files, sizes, &mut out);
+    let end = serve::<All, _, _>(rt, alloc, files, sizes, &mut out);
     with_status(out, end.expect(rt, "written").status).expect(rt, "a text")
 }
 
@@ -236,7 +236,7 @@ fn is_served<R: Threads + Wait + Abort + Sync>(rt: &R, alloc: Global, block: &'s
     let workers = next_number(&mut files).expect(rt, "a number");
     let mut out = Vec::new(alloc);
     let histories = named_files(rt, alloc, files);
-    let end = serve::<All, R, _>(rt, alloc, histories, sizes(rt, workers, 1, 0), &mut out);
+    let end = serve::<All, _, _>(rt, alloc, histories, sizes(rt, workers, 1, 0), &mut out);
     let told = told(rt, &end.expect(rt, "written"), out);
     same(alloc, told.as_str(), wanted).expect(rt, files);
 }
@@ -254,6 +254,6 @@ fn a_writer_that_fails_is_told(rt: HostRuntime) {
     let mut writer = room.as_mut_slice();
     let files = named_files(&rt, rt.alloc(), "nap.json: nap; greet.json: greet");
     let sizes = sizes(&rt, 1, 100, 0);
-    let answer = serve(&rt, rt.alloc(), files, sizes, &mut writer);
+    let answer = serve::<All, _, _>(&rt, rt.alloc(), files, sizes, &mut writer);
     assert!(rt; matches!(answer, Err(CommandFault::Output)));
 }
