@@ -177,9 +177,9 @@ fn without_tasks(alloc: Global, explanation: Explanation) -> Explanation
 }
 
 /// Replays a history file with the code of `W`, and returns what it finds, without the tasks: the
-/// verdict of `wh_tester::verdict`, and the command and the event that differ, if they do. These are
-/// the last pairing of the last task that `explain` returns. The file is parsed once, and its history
-/// is replayed at most once.
+/// verdict of `wh_tester::verdict`, and the command and the event that differ, if they do. These
+/// are the last pairing of the last task that `explain` returns. The file is parsed once, and its
+/// history is replayed at most once.
 ///
 /// `Verdict::OutOfMemory` can replace any verdict but that of a file that is too long. Nothing else
 /// is found then.
@@ -197,8 +197,8 @@ pub fn replay_file<W: Workflow>(alloc: Global, bytes: &[u8]) -> Explanation
 }
 
 /// Replays a history file with the code of `W`, from the result of reading it. Returns what
-/// `explain` does. The history is replayed once. Returns `OutOfMemory` if an allocation was refused,
-/// now or when the file was read.
+/// `explain` does. The history is replayed once. Returns `OutOfMemory` if an allocation was
+/// refused, now or when the file was read.
 pub fn explain_read<W: Workflow>(
     alloc: Global,
     read: Result<Vec<Event>, ReadFault>,
@@ -212,9 +212,10 @@ pub fn explain_read<W: Workflow>(
 /// Explains the replay of a history file with the code of `W`. Returns the verdict of
 /// `wh_tester::verdict`, the command and the event that differ, if they do, and the tasks in their
 /// order, up to the first that has a fault, each with the jobs that the workflow was given, the
-/// commands that it gave, and the recorded events beside those that are sent. There are no tasks if the file can't be read, if an event is not in place, or if
-/// the workflow type is not registered. The file is parsed once, and its history is replayed at most
-/// once. Returns `OutOfMemory` if an allocation was refused, but never for a file that is too long.
+/// commands that it gave, and the recorded events beside those that are sent. There are no tasks if
+/// the file can't be read, if an event is not in place, or if the workflow type is not registered.
+/// The file is parsed once, and its history is replayed at most once. Returns `OutOfMemory` if an
+/// allocation was refused, but never for a file that is too long.
 pub fn explain<W: Workflow>(alloc: Global, bytes: &[u8]) -> Result<Explanation, OutOfMemory>
     ensures explained { IfOk result (IsExplanationIn W.program bytes.now) }
     ensures memory { IfErr result (λ _. length bytes.now ≤ longest) }

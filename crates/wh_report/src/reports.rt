@@ -177,10 +177,11 @@ fn write_objects<O: Write>(records: &[Record], writer: &mut O) -> io::Result<()>
 /// Writes the report of records: a line for each file, in their order, and then a line with the
 /// number of files and of good ones. As JSON (RFC 8259) each is an object, that of a file as
 /// `wh_tester::write_json_line` writes it, and that of the totals with `files` and `ok`. The object
-/// of a file has after the text of its fault: what that omits, as `wh_file_faults::NoCodeMember` and
-/// `wh_file_faults::FaultDetailMembers` write it; what is sent and what is recorded, if they differ; and `warnings`, the list of its values that differ, each with `event`, `kind`, `sent` and
-/// `recorded`, if there are some. Each line goes to the writer as it is made. After an error some
-/// of the report may have been written.
+/// of a file has after the text of its fault: what that omits, as `wh_file_faults::NoCodeMember`
+/// and `wh_file_faults::FaultDetailMembers` write it; what is sent and what is recorded, if they
+/// differ; and `warnings`, the list of its values that differ, each with `event`, `kind`, `sent`
+/// and `recorded`, if there are some. Each line goes to the writer as it is made. After an error
+/// some of the report may have been written.
 pub fn write_report<O: Write>(records: &[Record], format: Format, writer: &mut O) -> io::Result<()>
     ensures { OnOk result (Appends (O.contents writer.old) (O.contents writer.new) (report_as format records.now)) }
 {
@@ -200,8 +201,9 @@ pub fn write_report<O: Write>(records: &[Record], format: Format, writer: &mut O
 
 /// Writes the report of records in the format that options ask for, and gives its status: 1 if a
 /// file is not good, and else 3 if values of one differ, and 0 if none do. The other options change
-/// nothing here: `replay_inputs` obeys `strict_values` when it makes the records, and `require_files` and
-/// `progress` are for who lists the files, as `replay_paths` of `wh_replay_command`.
+/// nothing here: `replay_inputs` obeys `strict_values` when it makes the records, and
+/// `require_files` and `progress` are for who lists the files, as `replay_paths` of
+/// `wh_replay_command`.
 pub fn report<O: Write>(
     records: &[Record],
     options: ReplayOptions,
